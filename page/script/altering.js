@@ -37,7 +37,7 @@ const copy = made => {
 
 const hourly = made => {
   setRhythm(made, lineNow(), rhythmOf(valueOf('hourly')));
-  if (!made.lines.length) throw new Error(`Line ${name} has ${valueOf('hourly')} trains an hour already.`);
+  if (!made.edits.length) throw new Error(`Line ${name} has ${valueOf('hourly')} trains an hour already.`);
   return `line ${name}: ${valueOf('hourly')} trains an hour`;
 };
 

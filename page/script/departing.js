@@ -1,5 +1,6 @@
 // The departure of the chosen event's train, from which its other times follow by its least minutes; trains that are tied to it follow too.
 
+import { edit } from './edits.js';
 import { element, find, setText } from './elements.js';
 import { factForm, minuteOf, minutesField } from './fields.js';
 import { clock, labelOf, minuteField, trainName } from './names.js';
@@ -14,7 +15,7 @@ const timesFrom = ({ events, steps }, minute) => {
   let time = minute;
   return events.map((event, place) => {
     if (place) time += activities.get(steps[place - 1]).lower;
-    return `time ${event} ${((time % period) + period) % period}`;
+    return edit.time(event, ((time % period) + period) % period);
   });
 };
 

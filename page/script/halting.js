@@ -1,5 +1,6 @@
 // A stop that a line is given between two stations, in both directions.
 
+import { edit } from './edits.js';
 import { addActivity, addEvent } from './making.js';
 import { labelOf } from './names.js';
 import { shown } from './shown.js';
@@ -31,9 +32,9 @@ export const addStop = (made, line, { one, other, station, before, dwell, after 
     const arrival = addEvent(made, { ...label, kind: 'arrival' }, at(Number(there[0])));
     const departure = addEvent(made, { ...label, kind: 'departure' }, at(Number(there[0]) + Number(dwell[0])));
     const { number, weight } = run, kind = shown.labels.kinds.get(number);
-    made.lines.push(`ends ${number} ${run.first} ${arrival}`, `span ${number} ${there.join(' ')}`);
+    made.edits.push(edit.ends(number, run.first, arrival), edit.span(number, ...there));
     addActivity(made, [arrival, departure], dwell, weight, kind && 'dwell');
     addActivity(made, [departure, run.last], on, weight, kind);
-    if (more > 0) made.times.push(...later.filter(event => times.has(event)).map(event => `time ${event} ${(times.get(event) + more) % period}`));
+    if (more > 0) made.times.push(...later.filter(event => times.has(event)).map(event => edit.time(event, (times.get(event) + more) % period)));
   }
 };

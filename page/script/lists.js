@@ -1,6 +1,7 @@
 // Two lists: what the working timetable violates, and the steps that made the state shown.
 
 import { conflictsOf } from './conflicts.js';
+import { beginsEdit } from './edits.js';
 import { element, elided, find, say, setText } from './elements.js';
 import { showRow } from './events.js';
 import { activityName, clock, eventName, windowText } from './names.js';
@@ -46,14 +47,12 @@ const updateLines = view => {
   const { steps, place } = session;
   const items = steps.map((step, each) => element('li', { class: each < place ? '' : 'undone' },
     element('button', { class: 'link', onclick: () => goTo(each + 1), title: 'go to the state after this step' }, titleOf(step)),
-    step.title ? ` — ${titleOf({ lines: step.lines, title: '' })}` : '', each < place ? '' : ' (undone)'));
+    step.title ? ` — ${titleOf({ edits: step.edits, title: '' })}` : '', each < place ? '' : ' (undone)'));
   find('steps').replaceChildren(...items);
   find('no-steps').hidden = steps.length > 0;
 };
 
 export const stepsPanel = { update: updateLines };
-
-const EDITS = /^\s*(add|drop|fix|window|unfix|span|weight|ends|time|untime)\s/;
 
 // A line as the program takes it: an edit is a step, and anything else is asked.
 const typed = event => {
@@ -61,7 +60,7 @@ const typed = event => {
   const input = find('line'), line = input.value.trim();
   if (!line || line.startsWith('#')) return;
   if (/^(adopt|optimum|try)\b/.test(line)) return say('The buttons above search, and can be stopped.', true);
-  if (EDITS.test(line)) {
+  if (beginsEdit(line)) {
     if (doStep([line])) input.value = '';
     return;
   }

@@ -1,7 +1,7 @@
 // A step that adds or drops events and activities together with their names.
 
+import { edit, windowEdit } from './edits.js';
 import { find } from './elements.js';
-import { windowLine } from './network.js';
 import { doStep } from './session.js';
 import { shown } from './shown.js';
 
@@ -11,20 +11,20 @@ const freeNumber = (...taken) => taken.reduce((most, keys) => [...keys].reduce((
 // Nothing yet: the commands, those of times, which come last, the names, and the next numbers.
 export const beginMade = () => {
   const { network } = shown.view, { events, kinds } = shown.labels;
-  return { lines: [], times: [], events: new Map(events), kinds: new Map(kinds),
+  return { edits: [], times: [], events: new Map(events), kinds: new Map(kinds),
     event: freeNumber(network.events, events.keys()), activity: freeNumber(network.activities.keys(), kinds.keys()) };
 };
 
 // Adds an event with its label, and with a time where it has one, which may lie beyond the period.
 export const addEvent = (made, label, time = null) => {
-  made.lines.push(`add event ${made.event}`);
+  made.edits.push(edit.addEvent(made.event));
   made.events.set(made.event, label);
-  if (time !== null) made.times.push(`time ${made.event} ${time % shown.view.network.period}`);
+  if (time !== null) made.times.push(edit.time(made.event, time % shown.view.network.period));
   return made.event++;
 };
 
 export const addActivity = (made, ends, span, weight, kind) => {
-  made.lines.push(['add activity', made.activity, ...ends, ...span, weight].join(' '));
+  made.edits.push(edit.addActivity(made.activity, ...ends, ...span, weight));
   if (kind) made.kinds.set(made.activity, kind);
   made.activity += 1;
 };
@@ -33,11 +33,11 @@ const activitiesAt = events => [...shown.view.network.activities.values()].filte
 
 export const dropEvents = (made, events) => {
   for (const { number } of activitiesAt(new Set(events))) {
-    made.lines.push(`drop activity ${number}`);
+    made.edits.push(edit.dropActivity(number));
     made.kinds.delete(number);
   }
   for (const event of events) {
-    made.lines.push(`drop event ${event}`);
+    made.edits.push(edit.dropEvent(event));
     made.events.delete(event);
   }
 };
@@ -49,7 +49,7 @@ export const copyEvents = (made, events, minutes, line = null) => {
   for (const event of events) {
     const label = shown.labels.events.get(event), window = windows.get(event);
     const copy = addEvent(made, { ...label, line: line || label.line }, times.has(event) ? times.get(event) + minutes : null);
-    if (window) made.lines.push(windowLine(copy, (window.first + minutes) % period, window.length));
+    if (window) made.edits.push(windowEdit(copy, (window.first + minutes) % period, window.length));
     copies.set(event, copy);
   }
   for (const { number, first, last, lower, upper, weight } of activitiesAt(copies)) {
@@ -60,6 +60,6 @@ export const copyEvents = (made, events, minutes, line = null) => {
 };
 
 // Does it as one step. Raises Error where the program refuses a part of it, and then nothing has changed.
-export const doMade = ({ lines, times, events, kinds }, title = '') => {
-  if (!doStep([...lines, ...times], { title, labels: { ...shown.labels, events, kinds } })) throw new Error(find('said').textContent);
+export const doMade = ({ edits, times, events, kinds }, title = '') => {
+  if (!doStep([...edits, ...times], { title, labels: { ...shown.labels, events, kinds } })) throw new Error(find('said').textContent);
 };

@@ -1,10 +1,10 @@
-// What a timetable would move, in lines, in words, and on the strips.
+// What a timetable would move, in edits, in words, and on the strips.
 
+import { timeEdits } from './edits.js';
 import { element, findAll } from './elements.js';
 import { eventName, minutesText, oldText, trainName } from './names.js';
 import { timesNow } from './session.js';
 import { shown } from './shown.js';
-import { timeLines } from './times.js';
 import { trainAt } from './trains.js';
 
 // So many trains are told by their names.
@@ -15,7 +15,7 @@ const movedBy = times => {
   return [...times].filter(([event, time]) => before.get(event) !== time);
 };
 
-export const linesToTimes = times => timeLines(movedBy(times));
+export const editsToTimes = times => timeEdits(movedBy(times));
 
 const farther = (one, other) => {
   const { period } = shown.view.network, later = (((other - one) % period) + period) % period;

@@ -1,15 +1,15 @@
 // The rest of a timetable follows a hand, where that is ticked: beside what is dragged, or was moved by a key, all other events are where
 // the best timetable has them, or the nearest one. A Worker of its own looks for it.
 
+import { timeEdits } from './edits.js';
 import { find, sayMore } from './elements.js';
 import { doStep, eventsMoved, extendStep, markNow, present, preview, stepNow, timesNow } from './session.js';
 import { shown } from './shown.js';
-import { timeLines, wordsOf } from './times.js';
 import { stayingEvents } from './trains.js';
 import { turned } from './turning.js';
 import { soleWorker } from './workers.js';
 
-const follower = soleWorker(), NONE = { kind: '', lines: [] };
+const follower = soleWorker(), NONE = { kind: '', edits: [] };
 
 // What the hand does now, null where nothing, with what was shown before and the rest that is shown with it; and what was found last.
 let hand = null, last = NONE, hear = () => {};
@@ -26,7 +26,7 @@ const WORDS = { asked: 'the rest is looked for …', best: 'the best with it the
 // What was found last beside the hand; '' where it does nothing.
 export const restText = () => WHY[last.kind] ? `✕ ${WHY[last.kind]}` : WORDS[last.kind] || (last.kind ? `${last.kind === 'stopped' ? 'perhaps ' : ''}${WORDS[way()]}` : '');
 
-const timesIn = lines => new Map(lines.map(wordsOf).filter(([name]) => name === 'time').map(([, event, time]) => [Number(event), Number(time)]));
+const timesIn = edits => new Map(edits.filter(({ kind }) => kind === 'time').map(({ numbers }) => numbers));
 
 const restAt = now => {
   last = now;
@@ -34,53 +34,53 @@ const restAt = now => {
 };
 
 // What the hand changes, with the events where it has them, and those that it has moved before or that are to stay.
-const questionOf = lines => {
-  const times = timesNow(), stay = [...eventsMoved(), ...stayingEvents()].filter(event => times.has(event)), edits = lines.filter(line => !line.startsWith('time '));
+const questionOf = edits => {
+  const times = timesNow(), stay = [...eventsMoved(), ...stayingEvents()].filter(event => times.has(event)), others = edits.filter(({ kind }) => kind !== 'time');
   const held = new Map(stay.map(event => [event, times.get(event)]));
-  for (const [event, time] of timesIn(lines)) held.set(event, time);
-  return { held, asked: { kind: 'hand', mark: markNow(), ...present(), way: way(), edits, held: [...held], times: [...new Map([...times, ...held])], events: shown.view.network.events } };
+  for (const [event, time] of timesIn(edits)) held.set(event, time);
+  return { held, asked: { kind: 'hand', mark: markNow(), ...present(), way: way(), edits: others.map(({ line }) => line), held: [...held], times: [...new Map([...times, ...held])], events: shown.view.network.events } };
 };
 
-// The lines that set all other events, turned as a whole to where they are where nothing holds them.
-const linesOf = (found, { held, asked }) => {
+// The edits that set all other events, turned as a whole to where they are where nothing holds them.
+const editsTo = (found, { held, asked }) => {
   const times = timesNow(), { network } = shown.view, windows = new Map([...network.windows, ...held]);
   const others = asked.way === 'best' ? turned(found, { network: { ...network, windows }, times }) : found;
-  return timeLines([...others].filter(([event, time]) => !held.has(event) && times.get(event) !== time));
+  return timeEdits([...others].filter(([event, time]) => !held.has(event) && times.get(event) !== time));
 };
 
 // Asks for the rest; `tell` hears what is found, and the last of it with `isDone`.
 const ask = (question, tell) => {
   restAt({ ...NONE, kind: 'asked' });
   follower.ask(question.asked, ({ near, isDone }) => {
-    restAt({ kind: near ? near.kind : 'none', lines: near && near.times ? linesOf(near.times, question) : [] });
+    restAt({ kind: near ? near.kind : 'none', edits: near && near.times ? editsTo(near.times, question) : [] });
     tell(last, isDone);
   });
 };
 
 const draw = () => {
-  const { lines, title, rest, before } = hand, own = timesIn(lines);
-  const others = lines.length ? rest.lines.filter(line => !own.has(Number(wordsOf(line)[1]))) : [];
-  preview([...lines, ...others], title, others.length ? before : null);
+  const { edits, title, rest, before } = hand, own = timesIn(edits);
+  const others = edits.length ? rest.edits.filter(({ numbers }) => !own.has(numbers[0])) : [];
+  preview([...edits, ...others], title, others.length ? before : null);
 };
 
 // Asks for the rest where the hand is. What is found for where it was a moment ago is shown too, and then the next place is asked for.
 const askForHand = () => {
-  const { lines, question } = hand;
-  if (!lines.length) return restAt(NONE);
+  const { edits, question } = hand;
+  if (!edits.length) return restAt(NONE);
   return ask(question, (found, isDone) => {
     if (!hand) return;
-    const isHere = hand.lines === lines;
-    if (found.lines.length || isDone) Object.assign(hand, { rest: found, isKnown: isHere });
+    const isHere = hand.edits === edits;
+    if (found.edits.length || isDone) Object.assign(hand, { rest: found, isKnown: isHere });
     draw();
     if (!isHere) askForHand();
   });
 };
 
-// Shows what lines of a drag make, with the rest beside it: until that is known, where it was beside the hand last.
-export const showHand = (lines, title) => {
-  if (!way()) return preview(lines, title);
+// Shows what edits of a drag make, with the rest beside it: until that is known, where it was beside the hand last.
+export const showHand = (edits, title) => {
+  if (!way()) return preview(edits, title);
   const isAsked = hand && follower.of(), { before, rest } = hand || { before: shown.view.before || shown.view, rest: NONE };
-  hand = { lines, title, before, rest, isKnown: false, question: questionOf(lines) };
+  hand = { edits, title, before, rest, isKnown: false, question: questionOf(edits) };
   draw();
   return isAsked ? null : askForHand();
 };
@@ -91,29 +91,29 @@ export const leaveHand = () => {
   [hand, last] = [null, NONE];
 };
 
-const titleWith = (lines, title) => `${title || lines[0]}, and the rest follows`;
+const titleWith = (edits, title) => `${title || edits[0].line}, and the rest follows`;
 
 const sayWhy = ({ kind }) => WHY[kind] && sayMore(`the rest stays: ${WHY[kind]}`);
 
 // The step of a hand is done: the rest follows as soon as it is known, as a part of that step, where no other one came.
-const followLater = (question, lines, title) => {
+const followLater = (question, edits, title) => {
   const step = stepNow();
   ask(question, (found, isDone) => {
     if (!isDone || stepNow() !== step || shown.view.isTried) return;
     restAt(NONE);
-    if (found.lines.length) extendStep(found.lines, titleWith(lines, title));
+    if (found.edits.length) extendStep(found.edits, titleWith(edits, title));
     else sayWhy(found);
   });
 };
 
-// Does some lines as one step of a hand, which the rest follows.
-export const doByHand = (lines, title = '') => {
-  const taken = hand && hand.lines === lines && hand.isKnown ? hand.rest : null, question = way() && !taken ? questionOf(lines) : null;
+// Does some edits as one step of a hand, which the rest follows.
+export const doByHand = (edits, title = '') => {
+  const taken = hand && hand.edits === edits && hand.isKnown ? hand.rest : null, question = way() && !taken ? questionOf(edits) : null;
   leaveHand();
-  const isFollowed = taken && taken.lines.length > 0;
-  if (!doStep(isFollowed ? [...lines, ...taken.lines] : lines, { title: isFollowed ? titleWith(lines, title) : title, own: lines })) return;
+  const isFollowed = taken && taken.edits.length > 0;
+  if (!doStep(isFollowed ? [...edits, ...taken.edits] : edits, { title: isFollowed ? titleWith(edits, title) : title, own: edits })) return;
   if (taken) sayWhy(taken);
-  if (question) followLater(question, lines, title);
+  if (question) followLater(question, edits, title);
 };
 
 export const endRest = () => {

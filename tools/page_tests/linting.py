@@ -23,6 +23,8 @@ OPTIONS = {**dict.fromkeys(CHECKED, True), "target": "es2022", "module": "es2022
 OPTIONS["lib"] = ["es2022", "dom", "dom.iterable"]
 # The modules that lay out what others draw, and the most lines of all of them.
 LAYING_OUT, MOST_DRAWING = ("captions", "lanes", "places", "report", "spreading", "stretch", "ways"), 2_050
+# A text that is an edit with its numbers, or that is put before them.
+EDIT = re.compile(r"""[`'"](?:(?:(?:add|drop) (?:event|activity)|span|weight|ends|fix|window|unfix|time|untime)(?: (?:\$\{[^}`]*\}|\d+))+ ?|(?:add|drop) (?:event|activity) )[`'"]""")
 # What is given to callers outside, in outside.js: `get name() ..`, `name: ..` and `name`.
 GIVEN = re.compile(r"window\.Page = Object\.freeze\(\{(.*)\}\);", re.S)
 MEMBER = re.compile(r"\bget (\w+)\(\)|(\w+): \w+,|(?<!: )\b(\w+),(?!\})")
@@ -71,6 +73,14 @@ def what_scripts_share(suite: Suite, page: Hands) -> None:
     suite.note("takes what is given outside", {"they": ["outside"]}, {"they": sorted(name for name, text in texts.items() if "window.Page" in text)})
 
 
+def words_of_edits(suite: Suite, page: Hands) -> None:
+    """Edits are made by one module, which alone has their words."""
+    found = {path.stem: len(EDIT.findall(path.read_text())) for path in SCRIPTS.rglob("*.js")}
+    suite.note("modules that write an edit", {"they": {}}, {"they": {name: count for name, count in found.items() if count}})
+    texts = ["`fix ${event} 3`", "'add event '", '"time 3 4"', "['span 1 2 3']", "`add activity ${number} ${words.join(' ')} `"]
+    suite.note("texts that are edits", {"they": texts}, {"they": [text for text in texts if EDIT.search(text)]})
+
+
 def drawn_once(suite: Suite, page: Hands) -> None:
     """The modules that draw, those that lay out for them, and the package's own for a report, which asks them, have few lines together."""
     found = scripts(SCRIPTS)
@@ -92,4 +102,4 @@ def tools_of_page(suite: Suite, page: Hands) -> None:
         print(f"  nothing was tried of types in tools: mypy is not installed for {sys.executable}")
 
 
-GROUPS = [types_of_scripts, lint_of_scripts, what_scripts_share, drawn_once, tools_of_page]
+GROUPS = [types_of_scripts, lint_of_scripts, what_scripts_share, words_of_edits, drawn_once, tools_of_page]

@@ -1,8 +1,8 @@
-// What lines that were answered by `ok` make of a network and its times, and the lines that take them back. `dump` tells the same
+// What edits that were answered by `ok` make of a network and its times, and the edits that take them back. `dump` tells the same
 // network; it is asked where one is opened, and not at each step.
 
-import { windowLine } from './network.js';
-import { ascending, wordsOf } from './times.js';
+import { activityEdit, edit, windowEdit } from './edits.js';
+import { ascending } from './times.js';
 
 // A map that is copied where it is first changed, and then ascending.
 const changing = map => {
@@ -26,57 +26,55 @@ const hold = ({ windows }, event, window) => {
   const before = windows.get(event);
   if (window) windows.set(event, window);
   else windows.drop(event);
-  return [before ? windowLine(event, before.first, before.length) : `unfix ${event}`];
+  return [before ? windowEdit(event, before.first, before.length) : edit.unfix(event)];
 };
 
 const setTime = ({ times }, event, time) => {
   const before = times.get(event);
   if (time === undefined) times.drop(event);
   else times.set(event, time);
-  return [before === undefined ? `untime ${event}` : `time ${event} ${before}`];
+  return [before === undefined ? edit.untime(event) : edit.time(event, before)];
 };
 
 const change = ({ activities }, number, more) => activities.set(number, { ...activities.get(number), ...more });
 
-const activityWords = ({ number, first, last, lower, upper, weight }) => [number, first, last, lower, upper, weight].join(' ');
-
 const addActivity = ({ activities }, [number, first, last, lower, upper, weight]) => {
   activities.set(number, { number, first, last, lower, upper, weight });
-  return [`drop activity ${number}`];
+  return [edit.dropActivity(number)];
 };
 
 const dropActivity = ({ activities }, [number]) => {
-  const line = `add activity ${activityWords(activities.get(number))}`;
+  const back = activityEdit(activities.get(number));
   activities.drop(number);
-  return [line];
+  return [back];
 };
 
 const addEvent = ({ events }, [event]) => {
   events.set(event, true);
-  return [`drop event ${event}`];
+  return [edit.dropEvent(event)];
 };
 
 // An event goes with its window and its time.
 const dropEvent = ({ events, windows, times }, [event]) => {
   const window = windows.get(event), time = times.get(event);
   for (const map of [events, windows, times]) map.drop(event);
-  return [`add event ${event}`, window && windowLine(event, window.first, window.length), time !== undefined && `time ${event} ${time}`].filter(Boolean);
+  return [edit.addEvent(event), window && windowEdit(event, window.first, window.length), time !== undefined && edit.time(event, time)].filter(Boolean);
 };
 
-const changeOf = name => (draft, [number, ...values]) => {
+const changeOf = kind => (draft, [number, ...values]) => {
   const { lower, upper, weight, first, last } = draft.activities.get(number);
   const [more, before] = {
-    span: [{ lower: values[0], upper: values[1] }, `${lower} ${upper}`], weight: [{ weight: values[0] }, weight],
-    ends: [{ first: values[0], last: values[1] }, `${first} ${last}`],
-  }[name];
+    span: [{ lower: values[0], upper: values[1] }, [lower, upper]], weight: [{ weight: values[0] }, [weight]],
+    ends: [{ first: values[0], last: values[1] }, [first, last]],
+  }[kind];
   change(draft, number, more);
-  return [`${name} ${number} ${before}`];
+  return [edit[kind](number, ...before)];
 };
 
-// Of each edit how it changes a draft, which gives the lines that take that back; what its reply may be other after it; and
+// Of each kind of edit how it changes a draft, which gives the edits that take that back; what its reply may be other after it; and
 // whether it changes which events and activities there are.
 const OF_WINDOWS = ['domains', 'violations'], OF_TIMES = ['tensions', 'violations', 'cost'], ALL = ['domains', 'tensions', 'violations', 'cost'];
-const EDITS = {
+const OF_KIND = {
   fix: { act: (draft, [event, first]) => hold(draft, event, { first, length: 1 }), asks: OF_WINDOWS },
   window: { act: (draft, [event, first, length]) => hold(draft, event, { first, length }), asks: OF_WINDOWS },
   unfix: { act: (draft, [event]) => hold(draft, event, null), asks: OF_WINDOWS },
@@ -85,16 +83,10 @@ const EDITS = {
   span: { act: changeOf('span'), asks: ALL },
   weight: { act: changeOf('weight'), asks: ['cost'] },
   ends: { act: changeOf('ends'), asks: ALL, isOfShape: true },
-  'add event': { act: addEvent, asks: ALL, isOfShape: true },
-  'drop event': { act: dropEvent, asks: ALL, isOfShape: true },
-  'add activity': { act: addActivity, asks: ALL, isOfShape: true },
-  'drop activity': { act: dropActivity, asks: ALL, isOfShape: true },
-};
-
-// An edit with its numbers.
-const read = line => {
-  const words = wordsOf(line), count = words[0] === 'add' || words[0] === 'drop' ? 2 : 1;
-  return { ...EDITS[words.slice(0, count).join(' ')], numbers: words.slice(count).map(word => Number(word) + 0), words };
+  addEvent: { act: addEvent, asks: ALL, isOfShape: true },
+  dropEvent: { act: dropEvent, asks: ALL, isOfShape: true },
+  addActivity: { act: addActivity, asks: ALL, isOfShape: true },
+  dropActivity: { act: dropActivity, asks: ALL, isOfShape: true },
 };
 
 const networkOf = ({ events, windows, activities }, before, isOfShape) => {
@@ -103,22 +95,22 @@ const networkOf = ({ events, windows, activities }, before, isOfShape) => {
   return isSame ? before : { ...made, shape: isOfShape ? {} : before.shape };
 };
 
-// The network and the times after some lines, the same objects where none changes them; the lines that take them back; and
+// The network and the times after some edits, the same objects where none changes them; the edits that take them back; and
 // the questions to which they may change a reply.
-export const follow = ({ network, times }, lines) => {
-  const edits = lines.map(read), isOfShape = edits.some(edit => edit.isOfShape), { events, windows, activities } = network;
+export const follow = ({ network, times }, edits) => {
+  const isOfShape = edits.some(({ kind }) => OF_KIND[kind].isOfShape), { events, windows, activities } = network;
   const draft = { events: changing(isOfShape ? new Map(events.map(event => [event, true])) : new Map()), windows: changing(windows), activities: changing(activities), times: changing(times) };
-  const back = edits.map(({ act, numbers }) => act(draft, numbers)).reverse().flat(), asks = new Set(edits.flatMap(edit => edit.asks));
+  const back = edits.map(({ kind, numbers }) => OF_KIND[kind].act(draft, numbers)).reverse().flat(), asks = new Set(edits.flatMap(({ kind }) => OF_KIND[kind].asks));
   return { network: networkOf(draft, network, isOfShape), times: draft.times.made(), back, questions: ALL.filter(question => asks.has(question)) };
 };
 
-// What a line sets, which a later line sets anew, whatever it was; '' where that is not so simple.
+// What an edit sets, which a later one sets again, whatever it was; '' where that is not so simple.
 const SETS = { fix: 'window', window: 'window', time: 'time', span: 'span', weight: 'weight', ends: 'ends' }, TAKES = { ...SETS, unfix: 'window', untime: 'time' };
 
-const cellOf = (names, { words, numbers }) => names[words[0]] ? `${names[words[0]]} ${numbers[0]}` : '';
+const cellOf = (names, { kind, numbers }) => names[kind] ? `${names[kind]} ${numbers[0]}` : '';
 
-// Those of some lines that take back what others do which are not idle before more lines.
+// Those of some edits that take back what others do which are not idle before more edits.
 export const neededBefore = (back, more) => {
-  const kept = back.map(line => cellOf(TAKES, read(line))), set = new Set(more.map(line => cellOf(SETS, read(line))));
+  const kept = back.map(each => cellOf(TAKES, each)), set = new Set(more.map(each => cellOf(SETS, each)));
   return kept.includes('') || set.has('') ? back : back.filter((_, place) => !set.has(kept[place]));
 };

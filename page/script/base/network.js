@@ -1,19 +1,20 @@
 // A network as `dump` tells it, and the files and commands that say it again.
 
-// What a line of a script adds: an event, a window or an activity, by its number.
-const addedBy = line => {
-  const words = line.split(' ');
-  if (words[0] === 'fix') return { to: 'windows', number: Number(words[1]), value: { first: Number(words[2]), length: 1 } };
-  if (words[0] === 'window') return { to: 'windows', number: Number(words[1]), value: { first: Number(words[2]), length: Number(words[3]) } };
-  if (words[1] === 'event') return { to: 'events', number: Number(words[2]) };
-  const [number, first, last, lower, upper, weight] = words.slice(2).map(Number);
-  return { to: 'activities', number, value: { number, first, last, lower, upper, weight } };
+import { edit, readEdit, timeEdits, windowEdit } from './edits.js';
+
+// What an edit of a script adds: an event, a window or an activity, by its number.
+const ADDED = {
+  addEvent: ([number]) => ({ to: 'events', number }),
+  fix: ([number, first]) => ({ to: 'windows', number, value: { first, length: 1 } }),
+  window: ([number, first, length]) => ({ to: 'windows', number, value: { first, length } }),
+  addActivity: ([number, first, last, lower, upper, weight]) => ({ to: 'activities', number, value: { number, first, last, lower, upper, weight } }),
 };
+const addedBy = ({ kind, numbers }) => ADDED[kind](numbers);
 
 // The network of a reply to `dump`. What is of the same shape has the same events and activities, between the same ends.
 export const readNetwork = reply => {
   const network = { period: Number(reply[0].split(' ')[2]), events: [], windows: new Map(), activities: new Map(), shape: {} };
-  for (const { to, number, value } of reply.slice(1).map(addedBy)) {
+  for (const { to, number, value } of reply.slice(1).map(readEdit).map(addedBy)) {
     if (to === 'events') network.events.push(number);
     else network[to].set(number, value);
   }
@@ -59,8 +60,6 @@ export const rowsOf = (network, times) => {
   };
 };
 
-export const windowLine = (event, first, length) => length === 1 ? `fix ${event} ${first}` : `window ${event} ${first} ${length}`;
-
 // What a run begins with so that it has just this network and these times.
 export const baseOf = (network, times) => {
   const rows = rowsOf(network, times), alone = new Set(rows.events.map(([event]) => event));
@@ -70,9 +69,9 @@ export const baseOf = (network, times) => {
     fixed: rowsText(rows.fixed),
     times: rowsText(rows.times),
     setup: [
-      ...rows.events.map(([event]) => `add event ${event}`),
-      ...rows.windows.map(row => windowLine(...row)),
-      ...rows.times.filter(([event]) => alone.has(event)).map(([event, time]) => `time ${event} ${time}`),
-    ],
+      ...rows.events.map(([event]) => edit.addEvent(event)),
+      ...rows.windows.map(([event, first, length]) => windowEdit(event, first, length)),
+      ...timeEdits(rows.times.filter(([event]) => alone.has(event))),
+    ].map(({ line }) => line),
   };
 };

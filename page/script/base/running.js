@@ -2,13 +2,14 @@
 // where each question is about another network.
 
 import { domainReader } from './domains.js';
+import { readEdit, timeEdits } from './edits.js';
 import { follow } from './following.js';
 import { readNetwork } from './network.js';
 import { answer, openFiles } from './program.js';
 import {
   foundIn, isRefused, linesOfReply, readCost, readDomains, readFound, readTensions, readViolations, splitReplies,
 } from './replies.js';
-import { isAdopt, timeLines, timesOfFile } from './times.js';
+import { isAdopt, timesOfFile } from './times.js';
 
 // A run or a session that ended by a fault; its message is the program's text. `isWanting` where memory is wanted.
 export class RunFault extends Error {
@@ -100,15 +101,15 @@ export const openFirst = base => {
   const session = sessionOf(base), networkNow = () => readNetwork(session.ask('dump'));
   return prepared(session, () => {
     const filed = networkNow(), before = base.times ? timesOfFile(base, filed.events) : new Map();
-    const lines = base.setup.flatMap(line => doneFirst(session, line));
-    const { times } = follow({ network: filed, times: before }, lines);
-    return { session, network: lines.length ? networkNow() : filed, times };
+    const edits = base.setup.flatMap(line => doneFirst(session, line));
+    const { times } = follow({ network: filed, times: before }, edits);
+    return { session, network: edits.length ? networkNow() : filed, times };
   });
 };
 
-// Has a session do a line, and gives the lines that make the same of its times.
+// Has a session do a line, and gives the edits that make the same of its network and times.
 const doneFirst = (session, line) => {
   const found = isAdopt(line) ? readFound(session.ask('optimum')) : null;
   isDone(line, session.ask(line));
-  return found ? timeLines(found.times) : [line];
+  return found ? timeEdits(found.times) : [readEdit(line)];
 };

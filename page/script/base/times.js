@@ -10,9 +10,6 @@ export const isAdopt = line => wordsOf(line)[0] === 'adopt';
 // A map by number, ascending.
 export const ascending = map => new Map([...map].sort(([one], [other]) => one - other));
 
-// The lines that set these times.
-export const timeLines = times => [...times].map(([event, time]) => `time ${event} ${time}`);
-
 // The times that the file of times gives to the events that are there when it is read.
 export const timesOfFile = ({ times, period }, events) => {
   const known = new Set(events), found = new Map();

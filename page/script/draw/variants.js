@@ -2,7 +2,7 @@
 // is what is shown. They stay as long as the page, whatever else is opened.
 
 import { besideConnections, besideDiagram, besideTable } from './beside.js';
-import { linesBetween } from './between.js';
+import { editsBetween } from './between.js';
 import { diagramOf } from './diagram.js';
 import { costsBeside, differences } from './differing.js';
 import { element, elided, find, rowOf, say, tableOf } from './elements.js';
@@ -59,7 +59,7 @@ const take = name => {
 const button = (text, onclick, more = {}) => element('button', { type: 'button', onclick, ...more }, text);
 
 // The lines by which what is shown becomes another view of the same period.
-const linesTo = view => linesBetween({ network: shown.view.network, times: timesNow() }, view);
+const linesTo = view => editsBetween({ network: shown.view.network, times: timesNow() }, view);
 
 const isOfPeriod = view => view.network.period === shown.view.network.period;
 

@@ -1,12 +1,13 @@
 // Drafts: what is not saved, kept in the browser where the planner says so, and offered when the page is opened the next time.
 // Each page writes one of its own, which it holds as long as it is open; of one that another page holds it opens a copy.
 
+import { beginsEdit } from './edits.js';
 import { element, find, say, sayMore, setText } from './elements.js';
 import { filesOf, isSaved } from './filing.js';
 import { namesHeld, takeHold, untilFree } from './holding.js';
 import { keepingKeys } from './keeping.js';
 import { labelsText, readLabels } from './labels.js';
-import { session } from './session.js';
+import { linesOfStep, session } from './session.js';
 import { shown } from './shown.js';
 import { openTexts } from './texts.js';
 
@@ -15,7 +16,7 @@ const CHOICE = 'pespbench-keep', KEY = 'pespbench-draft-', DELAY = 300, MOST_STE
 const FILES = ['activities', 'fixed', 'windows', 'events', 'times', 'period', 'labels', 'places'];
 // A page that was left lets its draft go a little later.
 const PATIENCE = 250;
-const LINE = /^(add|drop|fix|window|unfix|span|weight|ends|time|untime) [^\r\n]{1,4000}$/;
+const LINE = /^[a-z]+ [^\r\n]{1,4000}$/;
 let own = '', letOwnGo = null, waiting = 0, fault = '';
 
 // What the browser keeps by a key; a browser may refuse that as a whole, or lack the room.
@@ -37,8 +38,8 @@ const isKept = () => {
 const draftNow = () => {
   const { opened, steps, place } = session;
   const files = filesOf(opened.network, opened.times, opened.labels), labels = labelsText(shown.labels);
-  const done = steps.slice(0, place).filter(({ lines }) => lines.length);
-  const kept = { steps: done.map(({ lines }) => lines), titles: done.map(step => step.title) };
+  const done = steps.slice(0, place).filter(({ edits }) => edits.length);
+  const kept = { steps: done.map(linesOfStep), titles: done.map(step => step.title) };
   return JSON.stringify({ title: opened.title, at: Date.now(), files, labels, ...kept });
 };
 
@@ -71,7 +72,7 @@ const draftOf = key => {
   try {
     const { title, at, files, labels, steps, titles = [] } = JSON.parse(store.read(key));
     const isWhole = Object.keys(files).every(name => FILES.includes(name)) && [title, labels, ...titles, ...Object.values(files)].every(text => typeof text === 'string') && new Date(at).getTime() >= 0
-      && steps.length <= MOST_STEPS && steps.every(lines => lines.length && lines.every(line => LINE.test(line)));
+      && steps.length <= MOST_STEPS && steps.every(lines => lines.length && lines.every(line => LINE.test(line) && beginsEdit(line)));
     return isWhole ? { title, at, files, labels, steps: steps.map((lines, place) => ({ lines, title: titles[place] || '' })) } : null;
   } catch (damage) {
     return null;

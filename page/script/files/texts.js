@@ -1,13 +1,14 @@
 // A network from the texts of its files.
 
 import { play } from './asking.js';
+import { beginsEdit, edit, timeEdits } from './edits.js';
 import { noLabels, readLabels, readPlaces } from './labels.js';
 import { EVENTS, numberIn, numbersIn, RESIDUES, rowsIn } from './records.js';
 import { openBase } from './session.js';
 import { isAdopt, timesOfFile } from './times.js';
 
 // Edits and lines about times; a file of lines may have questions too, which make nothing.
-const MAKES = /^\s*(add|drop|fix|window|unfix|span|weight|ends|time|untime|adopt)\s?/;
+const makes = line => beginsEdit(line) || /^\s*adopt/.test(line);
 const BLANK = 32, MOST_OF_A_LINE = 4096, MOST_LINES = 1000000;
 // So many lines are played at once; more of them, and a search, where they can be stopped.
 const MOST_AT_ONCE = 1000;
@@ -27,7 +28,7 @@ const linesOf = text => {
     const feed = text.indexOf('\n', start), end = feed < 0 ? text.length : feed, line = text.slice(start, end);
     if (number > MOST_LINES) throw new Error(`lines file: it has more than ${MOST_LINES.toLocaleString('en')} lines`);
     if (isLong(line)) throw new Error(`lines file: line ${number} is longer than ${MOST_OF_A_LINE} bytes`);
-    if (MAKES.test(line)) made.push(line.trim());
+    if (makes(line)) made.push(line.trim());
     start = end + 1;
   }
   return made;
@@ -41,10 +42,10 @@ const baseOf = ({ activities = '', fixed = '', times = '', events = '', windows 
   if (activities.length && isBlank(activities)) throw new Error('activities file: there is nothing in it but blanks');
   const alone = numbersIn('events', events, [EVENTS]).flat();
   const held = numbersIn('windows', windows, [EVENTS, RESIDUES, RESIDUES]);
-  const setup = [...alone.map(event => `add event ${event}`), ...held.map(row => `window ${row.join(' ')}`), ...lines];
+  const setup = [...alone.map(event => edit.addEvent(event).line), ...held.map(row => edit.window(...row).line), ...lines];
   // The program leaves out times of events that it does not know yet.
   const late = alone.length ? timesOfFile({ times, period }, alone) : new Map();
-  return { period, activities, fixed, times, setup: [...setup, ...[...late].map(([event, time]) => `time ${event} ${time}`)] };
+  return { period, activities, fixed, times, setup: [...setup, ...timeEdits(late).map(({ line }) => line)] };
 };
 
 // Opens the texts of files by their kinds. Raises RunFault, FileFault and Error with the words that are shown. Where many

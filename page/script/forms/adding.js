@@ -1,5 +1,6 @@
 // Adds an activity between two chosen events, drops activities and events, and names an event. Each is a step.
 
+import { edit } from './edits.js';
 import { element, find, say } from './elements.js';
 import { showRow } from './events.js';
 import { factForm, minutesTyped } from './fields.js';
@@ -12,7 +13,7 @@ import { shown, within } from './shown.js';
 const KINDS = ['run', 'dwell', 'change', 'turn', 'headway'], OF_ONE_STATION = ['dwell', 'change', 'turn', 'turnaround', 'transfer'];
 let from = null, opened = null, drawn = '';
 
-export const dropActivity = number => doStep([`drop activity ${number}`], { title: `${activityName(shown.view.network.activities.get(number))} dropped` });
+export const dropActivity = number => doStep([edit.dropActivity(number)], { title: `${activityName(shown.view.network.activities.get(number))} dropped` });
 
 const activitiesAt = event => [...shown.view.network.activities.values()].filter(each => each.first === event || each.last === event);
 

@@ -1,5 +1,6 @@
 // The chosen event in words, with fields to say what holds it and when it is.
 
+import { edit } from './edits.js';
 import { element, find, setText } from './elements.js';
 import { clockTyped, factForm, minutesField, minutesTyped } from './fields.js';
 import { domainText, eventName, labelOf, lengthText, minuteField, unitText } from './names.js';
@@ -13,11 +14,11 @@ const valueOf = (id, read = clockTyped) => read(find(id).value);
 
 // The fields stay where they are, so that what is typed there is not lost when something else is drawn.
 const build = () => {
-  const hold = factForm(() => doStep([`window ${shown.chosen} ${valueOf('hold-first')} ${valueOf('hold-length', minutesTyped)}`]),
+  const hold = factForm(() => doStep([edit.window(shown.chosen, valueOf('hold-first'), valueOf('hold-length', minutesTyped))]),
     element('label', { for: 'hold-first' }, 'held from'), fieldOf('hold-first'),
     element('label', { for: 'hold-length' }, 'for'), fieldOf('hold-length'), element('span', { id: 'hold-unit' }), ' ',
     element('button', {}, 'Hold'), element('button', { type: 'button', id: 'let-go', onclick: () => letGo(shown.chosen, false) }, 'Let go'));
-  const time = factForm(() => doStep([`time ${shown.chosen} ${valueOf('time-at')}`]),
+  const time = factForm(() => doStep([edit.time(shown.chosen, valueOf('time-at'))]),
     element('label', { for: 'time-at' }, 'time'), fieldOf('time-at'),
     element('button', {}, 'Set'), element('button', { type: 'button', id: 'no-time', onclick: () => letGo(shown.chosen, true) }, 'Take away'));
   find('facts').replaceChildren(hold, time);

@@ -2,6 +2,7 @@
 // in one step. Those without a time are left. No window stops a train: what is left is violated, and told at its place.
 
 import { isOutside, outsideText } from './conflicts.js';
+import { edit } from './edits.js';
 import { element, find, say } from './elements.js';
 import { factForm, minutesField, minutesTyped } from './fields.js';
 import { beginDrag } from './handles.js';
@@ -33,7 +34,7 @@ const begun = (event, isFromHere) => {
 
 const lines = () => {
   const { period } = shown.view.network, times = timesNow(), minutes = ((moved.minutes % period) + period) % period;
-  return minutes ? moved.events.filter(event => times.has(event)).map(event => `time ${event} ${(times.get(event) + minutes) % period}`) : [];
+  return minutes ? moved.events.filter(event => times.has(event)).map(event => edit.time(event, (times.get(event) + minutes) % period)) : [];
 };
 
 const title = () => {

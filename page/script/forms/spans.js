@@ -1,6 +1,7 @@
 // The activities at the chosen event: their spans with ends to drag, and the tension and slack on them.
 
 import { dropActivity } from './adding.js';
+import { edit } from './edits.js';
 import { element, elided, find, setText } from './elements.js';
 import { bringRow, showRow } from './events.js';
 import { minutesField, minutesTyped, numberField } from './fields.js';
@@ -136,9 +137,9 @@ const place = (node, card, first, end) => {
 
 // The span that a handle makes when it is moved by some minutes; an end stops at the other one.
 const spanLine = (number, { lower, upper }, end, move) => {
-  if (end === 'lower') return `span ${number} ${Math.min(upper, lower + move)} ${upper}`;
-  if (end === 'upper') return `span ${number} ${lower} ${Math.max(lower, upper + move)}`;
-  return `span ${number} ${lower + move} ${upper + move}`;
+  if (end === 'lower') return edit.span(number, Math.min(upper, lower + move), upper);
+  if (end === 'upper') return edit.span(number, lower, Math.max(lower, upper + move));
+  return edit.span(number, lower + move, upper + move);
 };
 
 const begin = (card, event) => {
@@ -163,8 +164,8 @@ const change = card => {
   const before = shown.view.network.activities.get(card.number);
   const [lower, upper] = [card.least, card.most].map(input => minutesTyped(input.value)), weight = card.weight.value.trim();
   const lines = [];
-  if (lower !== String(before.lower) || upper !== String(before.upper)) lines.push(`span ${card.number} ${lower} ${upper}`);
-  if (weight !== String(before.weight)) lines.push(`weight ${card.number} ${weight}`);
+  if (lower !== String(before.lower) || upper !== String(before.upper)) lines.push(edit.span(card.number, lower, upper));
+  if (weight !== String(before.weight)) lines.push(edit.weight(card.number, weight));
   if (lines.length) doStep(lines);
   card.drawn = '';
   drawCard(card, shown.view.network.activities.get(card.number), shown.view);

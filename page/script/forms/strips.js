@@ -2,11 +2,11 @@
 
 import { addHere } from './adding.js';
 import { isOutside } from './conflicts.js';
+import { edit, windowEdit } from './edits.js';
 import { find } from './elements.js';
 import { eventBeside, rowAt, showRow } from './events.js';
 import { beginDrag, isFinger, minutesOfKey, moveOf, unitAt } from './handles.js';
 import { beginMove, moveTrain, wantsFromHere } from './moving.js';
-import { windowLine } from './network.js';
 import { doByHand } from './rest.js';
 import { choose, doStep } from './session.js';
 import { shown } from './shown.js';
@@ -20,17 +20,17 @@ const modulo = (value, period) => ((value % period) + period) % period;
 const endLine = (event, { first, length }, grip, minute, period) => {
   const last = first + length - 1;
   const count = grip === 'first' ? modulo(last - minute, period) + 1 : modulo(minute - first, period) + 1;
-  return windowLine(event, grip === 'first' ? minute : first, count);
+  return windowEdit(event, grip === 'first' ? minute : first, count);
 };
 
 // The line of a drag that began on a strip, for each minute under the pointer.
 const lineOf = (row, target, start) => {
   const { event } = row, { period, windows } = shown.view.network, window = windows.get(event), grip = target.dataset.grip;
-  if (grip === 'now') return minute => `time ${event} ${modulo(minute, period)}`;
+  if (grip === 'now') return minute => edit.time(event, modulo(minute, period));
   if (grip) return minute => endLine(event, window, grip, modulo(grip === 'last' ? minute - 1 : minute, period), period);
   const isWithin = window && window.length > 1 && modulo(start - window.first, period) < window.length;
-  if (isWithin) return minute => windowLine(event, modulo(window.first + minute - start, period), window.length);
-  return minute => `fix ${event} ${Math.min(period - 1, Math.max(0, minute))}`;
+  if (isWithin) return minute => windowEdit(event, modulo(window.first + minute - start, period), window.length);
+  return minute => edit.fix(event, Math.min(period - 1, Math.max(0, minute)));
 };
 
 // An end of a frame lies between two minutes, and is taken hold of beside them: by how much a pointer is off the later one.
@@ -65,15 +65,15 @@ const movedLine = (event, move, isLength) => {
   const { period, windows } = shown.view.network, window = windows.get(event);
   if (!window) {
     const [first = 0] = shown.view.domains.get(event), time = shown.view.times.get(event);
-    return `fix ${event} ${time === undefined ? first : time}`;
+    return edit.fix(event, time === undefined ? first : time);
   }
-  if (isLength) return windowLine(event, window.first, Math.min(period, Math.max(1, window.length + move)));
-  return windowLine(event, modulo(window.first + move, period), window.length);
+  if (isLength) return windowEdit(event, window.first, Math.min(period, Math.max(1, window.length + move)));
+  return windowEdit(event, modulo(window.first + move, period), window.length);
 };
 
 const gripLine = (event, grip, move) => {
   const { period, windows } = shown.view.network;
-  if (grip === 'now') return `time ${event} ${modulo(shown.view.times.get(event) + move, period)}`;
+  if (grip === 'now') return edit.time(event, modulo(shown.view.times.get(event) + move, period));
   const window = windows.get(event), end = grip === 'first' ? window.first : window.first + window.length - 1;
   return endLine(event, window, grip, modulo(end + move, period), period);
 };
@@ -97,7 +97,7 @@ const typed = event => {
 
 // Lets go of what holds an event, or takes its time away.
 export const letGo = (event, isTime) => {
-  if (isTime ? shown.view.times.has(event) : shown.view.network.windows.has(event)) doStep([`${isTime ? 'untime' : 'unfix'} ${event}`]);
+  if (isTime ? shown.view.times.has(event) : shown.view.network.windows.has(event)) doStep([isTime ? edit.untime(event) : edit.unfix(event)]);
 };
 
 // A diamond that lies in a frame hides what a hand means there.

@@ -2,6 +2,7 @@
 // is worked out, and taken over by a click.
 
 import { drawCurve, hasCost, makeCurve, priceText, shadesOf, summaryOf } from './curves.js';
+import { edit } from './edits.js';
 import { element, find, findAll, say, setText } from './elements.js';
 import { minutesOfKey, tellHandle, unitAt } from './handles.js';
 import { activityName, clock, eventName, minutesText } from './names.js';
@@ -46,10 +47,10 @@ const nowOf = ({ of, number }, { times, tensions }) => of === 'event' ? times.ge
 // Another timetable as far as it is another.
 const changedTimes = ({ times }) => {
   const { network: { events }, times: now } = shown.view;
-  return events.flatMap((event, place) => now.get(event) === times[place] ? [] : [`time ${event} ${times[place]}`]);
+  return events.flatMap((event, place) => now.get(event) === times[place] ? [] : [edit.time(event, times[place])]);
 };
 
-const holdLines = ({ of, number, window }, minute) => of !== 'event' || (window && window.length === 1 && window.first === minute) ? [] : [`fix ${number} ${minute}`];
+const holdEdits = ({ of, number, window }, minute) => of !== 'event' || (window && window.length === 1 && window.first === minute) ? [] : [edit.fix(number, minute)];
 
 const titleOf = ({ of, number }, minute) => of === 'event' ? `${eventName(number)}: held at ${clock(minute)}`
   : `${activityName(shown.view.network.activities.get(number))}: ${minutesText(minute)}`;
@@ -58,7 +59,7 @@ const titleOf = ({ of, number }, minute) => of === 'event' ? `${eventName(number
 const take = (question, minute) => {
   const price = pricesOf(question).get(minute);
   if (!hasCost(price)) return say(priceText(pricesOf(question), minute, told(question, minute)), true);
-  const lines = [...holdLines(question, minute), ...changedTimes(price)];
+  const lines = [...holdEdits(question, minute), ...changedTimes(price)];
   if (!lines.length) return say('It is so already.');
   return carryPrices(question, () => doStep(lines, { title: titleOf(question, minute), isFound: true }));
 };

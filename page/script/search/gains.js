@@ -2,6 +2,7 @@
 // allows, beside the best one as it is. Each is a search; they are listed as they come, and one is taken over by a click.
 
 import { askFor } from './asking.js';
+import { edit, timeEdits } from './edits.js';
 import { element, elided, find, say, tableOf } from './elements.js';
 import { bestKnown } from './founds.js';
 import { activityName, kindOf, spanMinutes, spanText } from './names.js';
@@ -10,7 +11,6 @@ import { doStep, markNow, redraw } from './session.js';
 import { shown } from './shown.js';
 import { showActivity } from './spans.js';
 import { isTab } from './tabs.js';
-import { timeLines } from './times.js';
 
 const USUALLY_KEPT = ['run', 'dwell', 'headway'], MOST_ASKED = 2000, MOST_SHOWN = 200;
 const WAYS = {
@@ -46,7 +46,7 @@ const questionsOf = (view, way) => {
   const open = [...activities.values()].filter(each => kinds.has(kindOf(each.number)) && each.upper - each.lower < period - 1);
   open.sort((one, other) => Number(costNow(view, other) - costNow(view, one)) || one.number - other.number);
   return open.slice(0, MOST_ASKED).map(each => ({ each, after: WAYS[way].change(each) }))
-    .map(({ each, after }) => ({ number: each.number, after, paid: Number(WAYS[way].paid(each)), line: `span ${each.number} ${after.lower} ${after.upper}`, back: `span ${each.number} ${each.lower} ${each.upper}` }));
+    .map(({ each, after }) => ({ number: each.number, after, paid: Number(WAYS[way].paid(each)), line: edit.span(each.number, after.lower, after.upper).line, back: edit.span(each.number, each.lower, each.upper).line }));
 };
 
 const look = event => {
@@ -85,7 +85,7 @@ const helpful = view => {
 
 const take = ({ number, line, found }) => {
   const activity = shown.view.network.activities.get(number), title = `${activityName(activity)}: ${WAYS[asked.way].title}, and the best timetable with it`;
-  doStep([line, ...timeLines(found.times)], { title });
+  doStep([line, ...timeEdits(found.times)], { title });
 };
 
 const savedText = ({ saved, found }) => {

@@ -1,7 +1,7 @@
 // What a minute costs, as a session tells it, which is as before afterwards: the least cost of a timetable that has an event at a
 // minute, whatever holds it now, or in which an activity takes so many minutes.
 
-import { windowLine } from './network.js';
+import { edit, windowEdit } from './edits.js';
 import { exactly, isSure } from './replies.js';
 import { does } from './running.js';
 
@@ -10,11 +10,11 @@ const MOST = 1500, FIRST_NODES = 1000, STEP = 100;
 
 const OF = {
   event: ({ number, window }, minute) => ({
-    line: `fix ${number} ${minute}`, back: window ? windowLine(number, window.first, window.length) : `unfix ${number}`, less: 0n,
+    line: edit.fix(number, minute).line, back: (window ? windowEdit(number, window.first, window.length) : edit.unfix(number)).line, less: 0n,
   }),
   // Minutes above the new least ones cost nothing, so those up to it are added.
   activity: ({ number, lower, upper, weight }, minutes) => ({
-    line: `span ${number} ${minutes} ${minutes}`, back: `span ${number} ${lower} ${upper}`, less: BigInt(weight) * BigInt(minutes - lower),
+    line: edit.span(number, minutes, minutes).line, back: edit.span(number, lower, upper).line, less: BigInt(weight) * BigInt(minutes - lower),
   }),
 };
 

@@ -1,5 +1,6 @@
 // A session whose searches begin with a timetable that is known: they tell none that is dearer, and look for cheaper ones alone.
 
+import { edit, readEdit } from './edits.js';
 import { does, openSession, prepared } from './running.js';
 
 // With more events it takes longer than it saves.
@@ -10,9 +11,9 @@ export const canPrime = times => times.size <= MOST_EVENTS;
 // A session of the network of a `dump`, which begins with some times where there are any. A search first tries what was an optimum before
 // an edit, so the timetable is made one: that of its events, each fixed at its time, without activities. Raises RunFault.
 export const sessionFrom = ([head, ...script], times) => {
-  const isEvent = line => line.startsWith('add event'), period = Number(head.split(' ')[2]);
+  const isEvent = line => readEdit(line).kind === 'addEvent', period = Number(head.split(' ')[2]);
   if (!times || !canPrime(times)) return openSession({ period }, script);
-  const fixed = [...times].map(([event, time]) => `fix ${event} ${time}`), free = [...times.keys()].map(event => `unfix ${event}`);
+  const fixed = [...times].map(([event, time]) => edit.fix(event, time).line), free = [...times.keys()].map(event => edit.unfix(event).line);
   const session = openSession({ period }, [...script.filter(isEvent), ...fixed]);
   return prepared(session, () => {
     session.ask('optimum');

@@ -2,7 +2,8 @@
 // the run, and each part that the set's activities join and no window holds is held at 0 somewhere: such a part can be turned
 // as a whole, so this takes no timetable away from which another could not be turned.
 
-import { partsOf, rowsText, windowLine } from './network.js';
+import { windowEdit } from './edits.js';
+import { partsOf, rowsText } from './network.js';
 import { readFound } from './replies.js';
 import { run } from './running.js';
 
@@ -48,7 +49,7 @@ const baseOf = ({ network, preferred }, members) => {
   }
   return {
     period, fixed: '', times: '', activities: rowsText(rows.map(row => [row.number, row.first, row.last, row.lower, row.upper, 0])),
-    setup: [...windows].map(([event, { first, length }]) => windowLine(event, first, length)),
+    setup: [...windows].map(([event, { first, length }]) => windowEdit(event, first, length).line),
   };
 };
 

@@ -5,7 +5,7 @@ import { askedNow, askFor } from './asking.js';
 import { element, find, say, setText } from './elements.js';
 import { isField } from './fields.js';
 import { foundsOf, noteFound } from './founds.js';
-import { drawOld, linesToTimes, movesText } from './moves.js';
+import { drawOld, editsToTimes, movesText } from './moves.js';
 import { eventName, minutesText } from './names.js';
 import { doStep, eventsMoved, markNow, preview, refresh, timesNow } from './session.js';
 import { shown } from './shown.js';
@@ -15,7 +15,7 @@ import { stayingEvents } from './trains.js';
 import { turned } from './turning.js';
 import { countViolated, isMet } from './viewing.js';
 
-// What is shown as proposed: its lines and words, and what the step is called that takes it; and what a search for one came to that shows
+// What is shown as proposed: its edits and words, and what the step is called that takes it; and what a search for one came to that shows
 // none, null where there is no such; and what was listed last.
 let proposed = null, refusal = null, found = null, offered = [];
 
@@ -25,7 +25,7 @@ const costText = before => {
   return more ? `cost ${(more < 0n ? -more : more).toLocaleString('en')} ${more < 0n ? 'less' : 'more'}` : 'cost as before';
 };
 
-// Shows what lines would make above what is shown, which stays what it is; `told` says what they move, and `step` what takes them.
+// Shows what edits would make above what is shown, which stays what it is; `told` says what they move, and `step` what takes them.
 const propose = (lines, told, step, isToMeet = true) => {
   const before = shown.view.before || shown.view;
   refusal = null;
@@ -46,13 +46,13 @@ export const see = (...of) => {
 };
 
 // The same of a timetable that was found.
-export const seeTimes = (times, title) => see(linesToTimes(nearer(times)), movesText(nearer(times)), { title });
+export const seeTimes = (times, title) => see(editsToTimes(nearer(times)), movesText(nearer(times)), { title });
 
 // Turned to agree with the one that is shown.
 const nearer = times => turned(times, shown.view.before || shown.view);
 
 const offer = ({ times, cost }) => {
-  const name = cost.toLocaleString('en'), isOther = linesToTimes(nearer(times)).length > 0;
+  const name = cost.toLocaleString('en'), isOther = editsToTimes(nearer(times)).length > 0;
   const button = isOther && element('button', { type: 'button', onclick: () => seeTimes(times, `the timetable of cost ${name} is taken`) }, 'See it');
   return element('li', {}, element('b', {}, name), isOther ? ` ${movesText(nearer(times))} ` : ' it is shown', button);
 };
@@ -70,7 +70,7 @@ export const tellOffers = () => {
 };
 
 const proposeNearest = ({ times, kind }, held) => {
-  propose(linesToTimes(times), `${movesText(times, held)}${kind === 'optimum' ? '' : '; perhaps not the nearest'}`, { title: 'mended' });
+  propose(editsToTimes(times), `${movesText(times, held)}${kind === 'optimum' ? '' : '; perhaps not the nearest'}`, { title: 'mended' });
   if (proposed) noteFound(markNow(), { kind: 'stopped', times, cost: proposed.view.cost });
 };
 

@@ -1,6 +1,7 @@
 // Searches for the best timetable. What they have come to is told as they go, adopted by a click, while one runs too, and gone on from.
 
 import { askedNow, askFor, hearAsked, leaveAsked, stopAsking } from './asking.js';
+import { timeEdits } from './edits.js';
 import { find, lead, say, sayMore, setText } from './elements.js';
 import { betterFound, comparedText, foundText, tookText } from './found.js';
 import { bestKnown, noteFound } from './founds.js';
@@ -8,7 +9,6 @@ import { seeTimes, tellOffers } from './proposing.js';
 import { isSure } from './replies.js';
 import { doStep, markNow } from './session.js';
 import { shown } from './shown.js';
-import { timeLines } from './times.js';
 import { turned } from './turning.js';
 
 // The most that a search can be asked for.
@@ -97,7 +97,7 @@ const tell = () => {
 // Times are set by lines of their own, so that nothing is searched again when these lines are given once more.
 const adopt = () => {
   const { cost, kind } = found;
-  if (doStep(timeLines(turned(found.times, shown.view)), { isFound: true })) say(`adopted: ${kind === 'optimum' ? 'the optimum' : 'the best that was found'}, cost ${cost.toLocaleString('en')}`);
+  if (doStep(timeEdits(turned(found.times, shown.view)), { isFound: true })) say(`adopted: ${kind === 'optimum' ? 'the optimum' : 'the best that was found'}, cost ${cost.toLocaleString('en')}`);
   lead(find(askedNow() ? 'stop' : 'optimum'));
 };
 

@@ -6,7 +6,6 @@ import { element, find, lead } from './elements.js';
 import { showRow } from './events.js';
 import { bestKnown } from './founds.js';
 import { activityName, eventName, minutesText, spanMinutes, spanText, windowText } from './names.js';
-import { windowLine } from './network.js';
 import { memberKey } from './probing.js';
 import { doStep, markNow, redraw } from './session.js';
 import { shown } from './shown.js';
@@ -77,8 +76,8 @@ const claimText = ({ members, undecided, nodes }, network) => {
   return `Searches of ${nodes.toLocaleString('en')} cases see no conflict in the others without one of them; undecided is that without ${names}.`;
 };
 
-const lineOf = ({ member, after }) => member.of === 'event' ? windowLine(member.number, after.first, after.length)
-  : `span ${member.number} ${after.lower} ${after.upper}`;
+const editOf = ({ member, after }) => member.of === 'event' ? windowEdit(member.number, after.first, after.length)
+  : edit.span(member.number, after.lower, after.upper);
 
 const changeOf = ({ member, after }, period) => {
   const [wanted, before] = [after, member.bounds].map(bounds => boundsOf(member.of, bounds, period));
@@ -86,7 +85,7 @@ const changeOf = ({ member, after }, period) => {
 };
 
 const mendRow = (mend, network) => element('tr', {},
-  element('td', {}, element('button', { class: 'mend', onclick: () => doStep([lineOf(mend)]) }, `${minutesText(mend.minutes)} ${mend.isLess ? 'less' : 'more'}`)),
+  element('td', {}, element('button', { class: 'mend', onclick: () => doStep([editOf(mend)]) }, `${minutesText(mend.minutes)} ${mend.isLess ? 'less' : 'more'}`)),
   element('td', {}, nameOf(mend.member, network)),
   element('td', {}, changeOf(mend, network.period)));
 

@@ -1,6 +1,7 @@
 // The session: what was opened, the steps since, and which of them are done. What is shown is what a session of the program tells,
 // which is kept open and asked the lines of each step alone; it can be opened anew from the base and all lines.
 
+import { editsOf } from './edits.js';
 import { say } from './elements.js';
 import { follow, neededBefore } from './following.js';
 import { keepingKeys } from './keeping.js';
@@ -45,11 +46,12 @@ const NO_STEPS = { steps: [], labels: null };
 const doneAgain = (opened, first, { steps, labels }, mark) => {
   let [now, at] = [first, mark];
   const made = steps.map(({ lines, title }) => {
+    const edits = editsOf(lines);
     does(opened, lines);
-    const after = follow(now, lines);
+    const after = follow(now, edits);
     at = markAfter(after.network, now.network, at);
     now = { network: after.network, times: after.times };
-    return { lines, back: after.back, mark: at, title, labels };
+    return { edits, back: after.back, mark: at, title, labels };
   });
   return { steps: made, now };
 };
@@ -101,41 +103,41 @@ const toldWith = act => {
   }
 };
 
-// Has the session do some lines. Where one is refused, those before it are taken back, and the refusal is given; '' where none is.
-const refusalOf = lines => {
-  for (const [place, line] of lines.entries()) {
+// Has the session do some edits. Where one is refused, those before it are taken back, and the refusal is given; '' where none is.
+const refusalOf = edits => {
+  for (const [place, { line }] of edits.entries()) {
     const [reply] = kept.ask(line);
     if (reply === 'ok') continue;
-    for (const each of follow(told, lines.slice(0, place)).back) kept.ask(each);
+    for (const each of follow(told, edits.slice(0, place)).back) kept.ask(each.line);
     return `${line} — ${reply}`;
   }
   return '';
 };
 
-// What the session tells after some lines, which it has done; what they cannot have changed is not asked.
-const lookAfter = lines => {
-  const { network, times, questions } = follow(told, lines);
+// What the session tells after some edits, which it has done; what they cannot have changed is not asked.
+const lookAfter = edits => {
+  const { network, times, questions } = follow(told, edits);
   told = { ...told, network, times, ...look(kept, network, questions) };
   return told;
 };
 
-// Has the session try some lines after the present step, in the place of those tried before; false where one is refused, which is
+// Has the session try some edits after the present step, in the place of those tried before; false where one is refused, which is
 // told, and then nothing has changed.
 const tries = more => toldWith(() => {
-  const lines = [...tried ? neededBefore(tried.back, more) : [], ...more], refusal = refusalOf(lines);
+  const edits = [...tried ? neededBefore(tried.back, more) : [], ...more], refusal = refusalOf(edits);
   if (refusal) say(refusal, true);
   else {
-    lookAfter(lines);
-    tried = { lines: more, back: follow(settled, more).back };
+    lookAfter(edits);
+    tried = { edits: more, back: follow(settled, more).back };
   }
   return !refusal;
 });
 
-const isTried = more => Boolean(tried) && tried.lines.length === more.length && tried.lines.every((line, place) => line === more[place]);
+const isTried = more => Boolean(tried) && tried.edits.length === more.length && tried.edits.every(({ line }, place) => line === more[place].line);
 
-// Shows what some lines would make, as a step of a drag, or above what is `before` it; a title says in a planner's words what they do.
+// Shows what some edits, or their lines, would make, as a step of a drag, or above what is `before` it; a title says in a planner's words what they do.
 export const preview = (more, title = '', before = null) => {
-  if (tries(more)) show({ ...told, title, before, isTried: true });
+  if (tries(editsOf(more))) show({ ...told, title, before, isTried: true });
 };
 
 // The step that was done last; what was opened where none was.
@@ -146,15 +148,16 @@ const settle = () => {
   [settled, tried] = [told, null];
 };
 
-// Does some lines as one step, with other names or without, which can be undone; false where a line is refused, and then
-// nothing has changed. A title says in a planner's words what they do; what `isFound` is a timetable that was found, and `own` are the
-// lines of the hand, where others follow it.
-export const doStep = (more, { title = '', labels = shown.labels, isFound = false, own = more } = {}) => {
+// Does some edits, or their lines, as one step, with other names or without, which can be undone; false where one is refused,
+// and then nothing has changed. A title says in a planner's words what they do; what `isFound` is a timetable that was found, and
+// `own` are the edits of the hand, where others follow it.
+export const doStep = (given, { title = '', labels = shown.labels, isFound = false, own = given } = {}) => {
+  const more = editsOf(given);
   if (!isTried(more) && !tries(more)) {
     refresh();
     return false;
   }
-  const made = { ...tried, mark: markAfter(told.network, settled.network, markNow()), title, labels, isFound, own };
+  const made = { ...tried, mark: markAfter(told.network, settled.network, markNow()), title, labels, isFound, own: editsOf(own) };
   settle();
   state.steps.splice(state.place, Infinity, made);
   state.place += 1;
@@ -164,11 +167,11 @@ export const doStep = (more, { title = '', labels = shown.labels, isFound = fals
   return true;
 };
 
-// Makes more lines a part of the step that was done last, which has another title then.
+// Makes more edits a part of the step that was done last, which has another title then.
 export const extendStep = (more, title) => {
   const step = stepNow();
   if (!tries(more)) return refresh();
-  state.steps[state.place - 1] = { ...step, lines: [...step.lines, ...more], back: [...tried.back, ...step.back], title };
+  state.steps[state.place - 1] = { ...step, edits: [...step.edits, ...more], back: [...tried.back, ...step.back], title };
   settle();
   return show({ ...told, title });
 };
@@ -189,29 +192,31 @@ export const refresh = () => {
 const go = (place, word) => {
   if (place < 0 || place > state.steps.length) return;
   const back = state.steps.slice(place, state.place).reverse().flatMap(step => step.back);
-  if (!tries([...back, ...state.steps.slice(state.place, place).flatMap(step => step.lines)])) return;
+  if (!tries([...back, ...state.steps.slice(state.place, place).flatMap(step => step.edits)])) return;
   state.place = place;
   settle();
   setLabels((place ? state.steps[place - 1] : state.opened).labels);
   say(word);
   show({ ...told });
 };
-export const titleOf = ({ lines, title }) =>
-  title || (!lines.length ? 'a name' : lines.length === 1 ? lines[0] : `${lines[0]} and ${lines.length - 1} more commands`);
+export const titleOf = ({ edits, title }) =>
+  title || (!edits.length ? 'a name' : edits.length === 1 ? edits[0].line : `${edits[0].line} and ${edits.length - 1} more commands`);
 
 export const undo = () => state.place && go(state.place - 1, `undone: ${titleOf(state.steps[state.place - 1])}`);
 export const redo = () => state.place < state.steps.length
   && go(state.place + 1, `done again: ${titleOf(state.steps[state.place])}`);
 export const goTo = place => go(place, `${place} of ${state.steps.length} steps are done`);
 
+export const linesOfStep = ({ edits }) => edits.map(({ line }) => line);
+
 // All lines since the network was opened, of the steps that are done.
-export const journal = () => state.steps.slice(0, state.place).flatMap(step => step.lines);
+export const journal = () => state.steps.slice(0, state.place).flatMap(step => linesOfStep(step));
 
 // The events that a planner has moved since a timetable was found or the network was changed.
 export const eventsMoved = () => {
-  const isMove = ({ lines, own = lines, isFound }) => !isFound && own.every(line => line.startsWith('time '));
+  const isMove = ({ edits, own = edits, isFound }) => !isFound && own.every(({ kind }) => kind === 'time');
   const done = state.steps.slice(0, state.place), other = done.map(isMove).lastIndexOf(false);
-  return new Set(done.slice(other + 1).flatMap(({ lines, own = lines }) => own.map(line => Number(line.split(' ')[1]))));
+  return new Set(done.slice(other + 1).flatMap(({ edits, own = edits }) => own.map(({ numbers }) => numbers[0])));
 };
 
 // The replies to questions, of which the state knows nothing. Raises RunFault.
