@@ -23,6 +23,8 @@ OPTIONS = {**dict.fromkeys(CHECKED, True), "target": "es2022", "module": "es2022
 OPTIONS["lib"] = ["es2022", "dom", "dom.iterable"]
 # The modules that lay out what others draw, and the most lines of all of them.
 LAYING_OUT, MOST_DRAWING = ("captions", "lanes", "places", "report", "spreading", "stretch", "ways"), 2_050
+# The folders of modules, each above those before it; the last are the modules that are in none.
+ORDER = ["base", "session", "forms", "draw", "search", "files", "script"]
 # A text that is an edit with its numbers, or that is put before them.
 EDIT = re.compile(r"""[`'"](?:(?:(?:add|drop) (?:event|activity)|span|weight|ends|fix|window|unfix|time|untime)(?: (?:\$\{[^}`]*\}|\d+))+ ?|(?:add|drop) (?:event|activity) )[`'"]""")
 # What is given to callers outside, in outside.js: `get name() ..`, `name: ..` and `name`.
@@ -73,6 +75,18 @@ def what_scripts_share(suite: Suite, page: Hands) -> None:
     suite.note("takes what is given outside", {"they": ["outside"]}, {"they": sorted(name for name, text in texts.items() if "window.Page" in text)})
 
 
+def folders(suite: Suite, page: Hands) -> None:
+    """A module imports from its own folder and from those before it alone, and each folder has a short page that names its modules."""
+    found, place = scripts(SCRIPTS), {path.stem: ORDER.index(path.parent.name) for path in SCRIPTS.rglob("*.js")}
+    against = [f"{name} imports {each}" for name, script in found.items() for each in script.imports if place[each] > place[name]]
+    suite.note("imports against the order of folders", {"they": []}, {"they": against})
+    for name in ORDER[:-1]:
+        text = (SCRIPTS / name / "README.md").read_text()
+        named = [each for line in text.splitlines() if line.startswith("- ") for each in re.findall(r"`(\w+\.js)`", line)]
+        suite.note(f"modules that {name}/README.md names", {"they": sorted(path.name for path in (SCRIPTS / name).glob("*.js"))}, {"they": sorted(named)})
+        suite.holds(f"{name}/README.md has {len(text.splitlines())} lines", len(text.splitlines()) <= 40)
+
+
 def words_of_edits(suite: Suite, page: Hands) -> None:
     """Edits are made by one module, which alone has their words."""
     found = {path.stem: len(EDIT.findall(path.read_text())) for path in SCRIPTS.rglob("*.js")}
@@ -102,4 +116,4 @@ def tools_of_page(suite: Suite, page: Hands) -> None:
         print(f"  nothing was tried of types in tools: mypy is not installed for {sys.executable}")
 
 
-GROUPS = [types_of_scripts, lint_of_scripts, what_scripts_share, words_of_edits, drawn_once, tools_of_page]
+GROUPS = [types_of_scripts, lint_of_scripts, what_scripts_share, folders, words_of_edits, drawn_once, tools_of_page]
