@@ -1,14 +1,14 @@
 // What is always on the screen: cost and violations, how many events are narrowed, and what can be done next.
 
-import { costNote, violatedNote } from './changing.js';
-import { find, setText } from './elements.js';
-import { lengthText } from './names.js';
-import { showOpening } from './opening.js';
-import { showSaving } from './saving.js';
-import { doStep, redo, session, undo } from './session.js';
-import { shown } from './shown.js';
-import { untimedText } from './timed.js';
-import { countNarrowed, countViolated, isInfeasible } from './viewing.js';
+import { costNote, violatedNote } from './forms/changing.js';
+import { find, setText } from './base/elements.js';
+import { lengthText } from './session/names.js';
+import { showOpening } from './files/opening.js';
+import { showSaving } from './files/saving.js';
+import { doStep, redo, session, undo } from './session/session.js';
+import { shown } from './session/shown.js';
+import { untimedText } from './base/timed.js';
+import { countNarrowed, countViolated, isInfeasible } from './base/viewing.js';
 
 const update = view => {
   const { network } = view;

@@ -1,16 +1,16 @@
 // Two lists: what the working timetable violates, and the steps that made the state shown.
 
-import { conflictsOf } from './conflicts.js';
-import { beginsEdit } from './edits.js';
-import { element, elided, find, say, setText } from './elements.js';
-import { showRow } from './events.js';
-import { activityName, clock, eventName, windowText } from './names.js';
-import { mend } from './proposing.js';
-import { askSession, doStep, goTo, session, titleOf } from './session.js';
-import { shown } from './shown.js';
-import { showActivity } from './spans.js';
-import { isTab } from './tabs.js';
-import { untimedText } from './timed.js';
+import { conflictsOf } from './session/conflicts.js';
+import { beginsEdit } from './base/edits.js';
+import { element, elided, find, say, setText } from './base/elements.js';
+import { showRow } from './forms/events.js';
+import { activityName, clock, eventName, windowText } from './session/names.js';
+import { mend } from './search/proposing.js';
+import { askSession, doStep, goTo, session, titleOf } from './session/session.js';
+import { shown } from './session/shown.js';
+import { showActivity } from './forms/spans.js';
+import { isTab } from './session/tabs.js';
+import { untimedText } from './base/timed.js';
 
 const MOST_VIOLATED = 500;
 

@@ -1,42 +1,42 @@
 // What tests and measures take hold of, and what draws reports under Node: `window.Page`. No module uses it.
 
-import { addLabels } from './adding.js';
-import { zipOf } from './archive.js';
-import { keptFree } from './bands.js';
-import { boundingOf } from './bounding.js';
-import { chooseCorridor, corridor } from './corridor.js';
-import { diagramOf } from './diagram.js';
-import { costsBeside, differences } from './differing.js';
-import { drawing, find, readyAfter, say } from './elements.js';
-import { showBar, showRow } from './events.js';
-import { filesOf, filesToSave, folderName, isSaved } from './filing.js';
-import { trackOf } from './frames.js';
-import { placesText, readPlaces } from './labels.js';
-import { moveTrain } from './moving.js';
-import { bareClock, domainText, eventName, kindOf, labelOf, stepOf } from './names.js';
-import { netgraphOf } from './netgraph.js';
-import { readNetwork } from './network.js';
-import { openStory } from './opening.js';
-import { layOut } from './places.js';
-import { programNow } from './program.js';
-import { isRefused, readCost, readDomains, readTensions, readViolations } from './replies.js';
-import { reportOf, viewOfReport } from './report.js';
-import { run } from './running.js';
-import { showSaving } from './saving.js';
+import { addLabels } from './forms/adding.js';
+import { zipOf } from './files/archive.js';
+import { keptFree } from './draw/bands.js';
+import { boundingOf } from './search/bounding.js';
+import { chooseCorridor, corridor } from './draw/corridor.js';
+import { diagramOf } from './draw/diagram.js';
+import { costsBeside, differences } from './session/differing.js';
+import { drawing, find, readyAfter, say } from './base/elements.js';
+import { showBar, showRow } from './forms/events.js';
+import { filesOf, filesToSave, folderName, isSaved } from './files/filing.js';
+import { trackOf } from './draw/frames.js';
+import { placesText, readPlaces } from './base/labels.js';
+import { moveTrain } from './forms/moving.js';
+import { bareClock, domainText, eventName, kindOf, labelOf, stepOf } from './session/names.js';
+import { netgraphOf } from './draw/netgraph.js';
+import { readNetwork } from './base/network.js';
+import { openStory } from './files/opening.js';
+import { layOut } from './draw/places.js';
+import { programNow } from './base/program.js';
+import { isRefused, readCost, readDomains, readTensions, readViolations } from './base/replies.js';
+import { reportOf, viewOfReport } from './draw/report.js';
+import { run } from './base/running.js';
+import { showSaving } from './files/saving.js';
 import {
   askSession, choose, doStep, goTo, journal, present, preview, redo, refresh, session, timesNow, titleOf, undo,
-} from './session.js';
-import { shown, within } from './shown.js';
-import { atOnce } from './slices.js';
-import { sizeNow } from './sizes.js';
-import { rangeShown } from './spans.js';
-import { spread } from './spreading.js';
-import { stories } from './stories.js';
-import { showTab, tabNow } from './tabs.js';
-import { openTexts } from './texts.js';
-import { isForward } from './trains.js';
-import { countViolated, isInfeasible } from './viewing.js';
-import { asItIs } from './widening.js';
+} from './session/session.js';
+import { shown, within } from './session/shown.js';
+import { atOnce } from './draw/slices.js';
+import { sizeNow } from './session/sizes.js';
+import { rangeShown } from './forms/spans.js';
+import { spread } from './draw/spreading.js';
+import { stories } from './files/stories.js';
+import { showTab, tabNow } from './session/tabs.js';
+import { openTexts } from './files/texts.js';
+import { isForward } from './session/trains.js';
+import { countViolated, isInfeasible } from './base/viewing.js';
+import { asItIs } from './search/widening.js';
 
 window.Page = Object.freeze({
   get view() { return shown.view; },

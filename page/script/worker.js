@@ -1,21 +1,21 @@
 // What a Worker does, so that the page stays usable: searches, why there is no timetable, what would help, what minutes cost, and long
 // files of lines.
 
-import { MOST_BYTES } from './archive.js';
-import { boundingOf } from './bounding.js';
-import { findWhy } from './conflict.js';
-import { convert } from './converting.js';
-import { sourceOfBlob } from './decoding.js';
-import { tellRest } from './hand.js';
-import { tellNearest } from './nearest.js';
-import { baseOf, readNetwork } from './network.js';
-import { FIRST_NODES, paced } from './pacing.js';
-import { tellPrices } from './pricing.js';
-import { canPrime, sessionFrom } from './priming.js';
-import { startProgram } from './program.js';
-import { isSure } from './replies.js';
-import { openFirst, openSession } from './running.js';
-import { tellGains } from './widening.js';
+import { MOST_BYTES } from './files/archive.js';
+import { boundingOf } from './search/bounding.js';
+import { findWhy } from './search/conflict.js';
+import { convert } from './files/converting.js';
+import { sourceOfBlob } from './files/decoding.js';
+import { tellRest } from './search/hand.js';
+import { tellNearest } from './search/nearest.js';
+import { baseOf, readNetwork } from './base/network.js';
+import { FIRST_NODES, paced } from './search/pacing.js';
+import { tellPrices } from './search/pricing.js';
+import { canPrime, sessionFrom } from './search/priming.js';
+import { startProgram } from './base/program.js';
+import { isSure } from './base/replies.js';
+import { openFirst, openSession } from './base/running.js';
+import { tellGains } from './search/widening.js';
 
 // The session of the network that was asked about last, by its mark; whether its search has begun; the nodes of the next step; and what
 // bounds it by parts. It stays open, so that a search that was stopped is gone on with.

@@ -1,6 +1,5 @@
 """The sources of the page: types, lint, and what its modules share; and those of the tools about it. What is not installed is told."""
 
-import json
 import os
 import re
 import shutil
@@ -15,12 +14,8 @@ from tests.harness import TOP, Suite, within
 SCRIPTS = TOP / "page/script"
 # Debian's modules, which another Node does not look for.
 MODULES = "/usr/share/nodejs"
-CHECKED = ["noUnusedLocals", "noUnusedParameters", "noImplicitReturns", "noImplicitThis", "noFallthroughCasesInSwitch"]
-CHECKED += ["strictBindCallApply", "strictFunctionTypes", "allowJs", "checkJs", "noEmit"]
-# A module is imported by its name, whatever folder it is in.
-FOLDERS = [str(path) for path in [SCRIPTS, *SCRIPTS.iterdir()] if path.is_dir()]
-OPTIONS = {**dict.fromkeys(CHECKED, True), "target": "es2022", "module": "es2022", "moduleResolution": "node", "rootDirs": FOLDERS}
-OPTIONS["lib"] = ["es2022", "dom", "dom.iterable"]
+CHECKED = ["--noUnusedLocals", "--noUnusedParameters", "--noImplicitReturns", "--noImplicitThis", "--noFallthroughCasesInSwitch"]
+CHECKED += ["--strictBindCallApply", "--strictFunctionTypes"]
 # The modules that lay out what others draw, and the most lines of all of them.
 LAYING_OUT, MOST_DRAWING = ("captions", "lanes", "places", "report", "spreading", "stretch", "ways"), 2_050
 # The folders of modules, each above those before it; the last are the modules that are in none.
@@ -45,10 +40,9 @@ def told_by(suite: Suite, what: str, command: Sequence[object], **how: Any) -> N
 @within(240)
 def types_of_scripts(suite: Suite, page: Hands) -> None:
     """The scripts pass TypeScript's checker."""
-    files = [TOP / "page/types.d.ts", *sorted(SCRIPTS.rglob("*.js"))]
-    project = suite.folder / "tsconfig.json"
-    project.write_text(json.dumps({"compilerOptions": OPTIONS, "files": list(map(str, files))}))
-    told_by(suite, "types of scripts", ["tsc", "--project", project])
+    words = ["tsc", "--allowJs", "--checkJs", "--noEmit", "--target", "es2022", "--module", "es2022", "--moduleResolution", "node"]
+    words += ["--lib", "es2022,dom,dom.iterable", *CHECKED]
+    told_by(suite, "types of scripts", [*words, TOP / "page/types.d.ts", *sorted(SCRIPTS.rglob("*.js"))])
 
 
 @within(120)

@@ -26,9 +26,8 @@ ANSWERED = "Page.find('opening').open || Page.find('said').textContent !== ''"
 def told_by_node(suite: Suite, folder: str, *words: str) -> List[str]:
     """What readers.mjs writes in a folder with the page's modules."""
     there = suite.folder / folder
-    there.mkdir(exist_ok=True)
-    for path in [*SCRIPTS.rglob("*.js"), READERS]:
-        shutil.copy(path, there)
+    shutil.copytree(SCRIPTS, there, dirs_exist_ok=True)
+    shutil.copy(READERS, there)
     (there / "package.json").write_text('{"type": "module"}')
     done = subprocess.run(["node", READERS.name, *words], cwd=there, capture_output=True, text=True)
     return (done.stdout + done.stderr).splitlines()

@@ -3,13 +3,13 @@
 // a line for each that is slow.
 
 import fs from 'node:fs';
-import { convert } from './converting.js';
-import { sourceOf } from './decoding.js';
-import { minutesTyped } from './fields.js';
-import { helpFor } from './helping.js';
-import { quoted, readLabels, readPlaces } from './labels.js';
-import { EVENTS, numbersIn, recordsOf, rowsIn, trimmed } from './records.js';
-import { timesOfFile, wordsOf } from './times.js';
+import { convert } from './files/converting.js';
+import { sourceOf } from './files/decoding.js';
+import { minutesTyped } from './forms/fields.js';
+import { helpFor } from './files/helping.js';
+import { quoted, readLabels, readPlaces } from './base/labels.js';
+import { EVENTS, numbersIn, recordsOf, rowsIn, trimmed } from './base/records.js';
+import { timesOfFile, wordsOf } from './base/times.js';
 
 const LONG = 4000000, SHORT = LONG / 4, LEEWAY = 100, TOO_LONG = 5000;
 

@@ -11,7 +11,7 @@ from typing import Dict, List, NamedTuple, Sequence, Set
 
 from paging.tree import NotMade
 
-IMPORT = re.compile(r"^import \{(\s*\w+(?:,\s+\w+)*,?\s*)\} from '\./(\w+)\.js';\n", re.M)
+IMPORT = re.compile(r"^import \{(\s*\w+(?:,\s+\w+)*,?\s*)\} from '(\.\.?/(?:\w+/)?)(\w+)\.js';\n", re.M)
 EXPORT = re.compile(r"^export (?=(?:const|class|function|async function) (\w+)\b)", re.M)
 DECLARED = re.compile(r"^(?:const|let|class|function|async function) (\w+)\b", re.M)
 # What begins a line that is neither an import nor an export of these forms.
@@ -21,26 +21,31 @@ PARTS = "PESPBENCH"
 
 
 class Script(NamedTuple):
-    """A module: its name, the names that it imports by modules, those that it exports, and all else of its text."""
+    """A module: its name, its place below script/, the names that it imports by modules, those that it exports, and all else of
+    its text."""
 
     name: str
+    place: str
     imports: Dict[str, List[str]]
     exports: List[str]
     body: str
 
 
-def refuse(name: str, what: str) -> None:
-    raise NotMade(f"page/script/{name}.js {what}")
+def refuse(place: str, what: str) -> None:
+    raise NotMade(f"page/script/{place} {what}")
 
 
 def twice(names: Sequence[str]) -> List[str]:
     return sorted({name for name in names if names.count(name) > 1})
 
 
-def read(path: pathlib.Path) -> Script:
-    """The module in a file, where all that it imports is used."""
-    name, text = path.stem, path.read_text()
-    found = [(source, [word.strip() for word in names.split(",") if word.strip()]) for names, source in IMPORT.findall(text)]
+def read(path: pathlib.Path, folder: pathlib.Path) -> Script:
+    """The module in a file of a folder, where all that it imports is used, and is where the import says."""
+    name, text = str(path.relative_to(folder)), path.read_text()
+    found = [(source, [word.strip() for word in names.split(",") if word.strip()]) for names, _, source in IMPORT.findall(text)]
+    for _, way, source in IMPORT.findall(text):
+        if not (path.parent / way / f"{source}.js").is_file():
+            refuse(name, f"imports {way}{source}.js, which is not there")
     whole, ends = IMPORT.sub("", text), [0, *(each.end() for each in IMPORT.finditer(text))]
     if re.sub(r"^//.*", "", IMPORT.sub("", text[: ends[-1]]), flags=re.M).strip():
         refuse(name, "imports below something else than comments")
@@ -56,20 +61,23 @@ def read(path: pathlib.Path) -> Script:
             refuse(name, f"imports {each}, and does not use it")
         if each in declared:
             refuse(name, f"declares {each}, which it imports")
-    return Script(name, dict(found), exports, body)
+    return Script(path.stem, name, dict(found), exports, body)
 
 
 def scripts(folder: pathlib.Path) -> Dict[str, Script]:
     """All modules in a folder and below by their names, where each import is another one's export, and no two export one name."""
-    found = {path.stem: read(path) for path in sorted(folder.rglob("*.js"))}
+    paths = sorted(folder.rglob("*.js"))
+    for each in twice([path.stem for path in paths]):
+        refuse(f"{each}.js", "is in more than one folder")
+    found = {path.stem: read(path, folder) for path in paths}
     for each in twice([name for script in found.values() for name in script.exports]):
-        _, *others = [name for name, script in found.items() if each in script.exports]
+        _, *others = [script.place for script in found.values() if each in script.exports]
         refuse(others[0], f"exports {each}, as another module does")
     for script in found.values():
         for source, names in script.imports.items():
             for each in names:
                 if source not in found or each not in found[source].exports:
-                    refuse(script.name, f"imports {each} of {source}.js, which does not export it")
+                    refuse(script.place, f"imports {each} of {source}.js, which does not export it")
     return found
 
 
@@ -82,7 +90,7 @@ def below(found: Dict[str, Script], name: str) -> List[str]:
         if each in order:
             return
         if each in open_ones:
-            refuse(each, f"needs itself: {' imports '.join([*open_ones[open_ones.index(each):], each])}")
+            refuse(found[each].place, f"needs itself: {' imports '.join([*open_ones[open_ones.index(each):], each])}")
         open_ones.append(each)
         for source in found[each].imports:
             visit(source)
@@ -90,7 +98,7 @@ def below(found: Dict[str, Script], name: str) -> List[str]:
         order.append(each)
 
     if name not in found:
-        refuse(name, "is named in page/index.html, and is not there")
+        refuse(f"{name}.js", "is named in page/index.html, and is not there")
     visit(name)
     return order
 

@@ -177,6 +177,10 @@ def page_scripts(suite: Suite) -> None:
     what is no such module is refused."""
     came = refused(sources(suite, "modules", index_html=OF_MODULES, **MODULES))
     suite.note("modules", {"scripts": MADE_OF_MODULES}, {"scripts": came[came.find("<script data-modules") :]})
+    flat = {key: text.replace("./third.js", "./parts/third.js") for key, text in MODULES.items()}
+    folders = {"script__parts__third_js" if "third" in key else key: text for key, text in flat.items()}
+    in_folders = refused(sources(suite, "modules in folders", index_html=OF_MODULES, **folders))
+    suite.note("modules in folders", {"page": came}, {"page": in_folders})
     parts = re.findall(r"<script data-modules=\w+>(.*?)</script>", came, re.S)
     names = [base64.b64encode(hashlib.sha256(text.encode()).digest()).decode() for text in parts]
     suite.note("their names", {"in the policy": [True, True]}, {"in the policy": [f"'sha256-{name}'" in came for name in names]})
@@ -186,6 +190,8 @@ def page_scripts(suite: Suite) -> None:
     table = {
         "a name that is not exported": {"script__third_js": third.replace("export ", "")},
         "a module that is not there": {"script__second_js": second.replace("./third.js", "./fourth.js")},
+        "a module that is in another folder": {"script__second_js": second.replace("./third.js", "./parts/third.js")},
+        "two modules of one name": {"script__parts__third_js": "const four = 4;\n"},
         "a name that is not used": {"script__second_js": "import { Three } from './third.js';\n\n// As Three.\nexport const two = () => 2;\n"},
         "a name twice": {"script__second_js": second.replace("{ Three }", "{ Three, Three }")},
         "a module twice": {"script__second_js": "import { Four } from './third.js';\n" + second},

@@ -2,9 +2,9 @@
 // red text lies, and else with a mark.
 
 import { isApart, PARTS, spotsOf } from './apart.js';
-import { conflictsOf, shortConflicts, toldConflicts } from './conflicts.js';
-import { drawing, setAttribute } from './elements.js';
-import { labelOf } from './names.js';
+import { conflictsOf, shortConflicts, toldConflicts } from '../session/conflicts.js';
+import { drawing, setAttribute } from '../base/elements.js';
+import { labelOf } from '../session/names.js';
 
 const LETTER = 8, MARK = '✕', UPRIGHT = { origin: [0, 0], turn: 0 };
 

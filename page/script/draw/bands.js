@@ -1,9 +1,9 @@
 // Headways as bands: the minutes after a train in which no other one may follow it, all along its run.
 
-import { drawing } from './elements.js';
+import { drawing } from '../base/elements.js';
 import { pathsOf } from './frames.js';
-import { labelOf, minutesText, trainName } from './names.js';
-import { shown } from './shown.js';
+import { labelOf, minutesText, trainName } from '../session/names.js';
+import { shown } from '../session/shown.js';
 
 const FLAT = 5;
 

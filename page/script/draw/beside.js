@@ -1,15 +1,15 @@
 // A line of two variants in one drawing and one table, and the connections that take other times in them.
 
-import { isAlarming } from './conflicts.js';
+import { isAlarming } from '../session/conflicts.js';
 import { connectionsOf, takesText } from './connections.js';
-import { element, elided, rowOf, tableOf } from './elements.js';
+import { element, elided, rowOf, tableOf } from '../base/elements.js';
 import { frameOf, heightOf, sheetOf, waysOf } from './frames.js';
 import { conflictMarks, marked } from './marking.js';
-import { labelOf, signedMinutes, trainName } from './names.js';
-import { shown, within } from './shown.js';
+import { labelOf, signedMinutes, trainName } from '../session/names.js';
+import { shown, within } from '../session/shown.js';
 import { piecesOf, stretchOf } from './stretch.js';
 import { minuteText } from './tables.js';
-import { timedParts } from './trains.js';
+import { timedParts } from '../session/trains.js';
 
 const LOOKS = [{ width: 1.8, dashes: '5 4' }, { width: 2.6, dashes: null }], MOST_ROWS = 300;
 

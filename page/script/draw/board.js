@@ -1,11 +1,11 @@
 // A station's board: its arrivals and departures round the face of a clock and as a list, and its connections as a matrix.
 
-import { isAlarming } from './conflicts.js';
+import { isAlarming } from '../session/conflicts.js';
 import { connectionsOf, takesText } from './connections.js';
-import { drawing, element, elided, rowOf, tableOf } from './elements.js';
-import { bareClock, clock, labelOf, shortText, spanText, stepOf, trainName } from './names.js';
+import { drawing, element, elided, rowOf, tableOf } from '../base/elements.js';
+import { bareClock, clock, labelOf, shortText, spanText, stepOf, trainName } from '../session/names.js';
 import { minuteText } from './tables.js';
-import { trainAt } from './trains.js';
+import { trainAt } from '../session/trains.js';
 
 const SIZE = 320, RING = 102, ROW = 17, LEVELS = 3, APART = 36, TICK = 6, MOST_ROWS = 200, MOST_CELLS = 24;
 

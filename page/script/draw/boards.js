@@ -1,13 +1,13 @@
 // The view of a station's board: of one that is typed, or whose name is clicked twice anywhere, or that of the chosen event.
 
 import { boardOf } from './board.js';
-import { find } from './elements.js';
-import { isField } from './fields.js';
+import { find } from '../base/elements.js';
+import { isField } from '../forms/fields.js';
 import { fillFinder } from './finder.js';
 import { matches } from './finding.js';
-import { labelOf } from './names.js';
-import { shown } from './shown.js';
-import { isTab, showTab } from './tabs.js';
+import { labelOf } from '../session/names.js';
+import { shown } from '../session/shown.js';
+import { isTab, showTab } from '../session/tabs.js';
 
 let chosen = '';
 

@@ -1,16 +1,16 @@
 // What is drawn in a view is chosen by a click there, and by keys: ↑ ↓ go to other events, ← → move the train of the chosen one.
 
-import { conflictsAt, shortConflicts } from './conflicts.js';
-import { find, setAttribute } from './elements.js';
-import { bringRow, eventBeside, showRow } from './events.js';
-import { minutesOfDiagram } from './extent.js';
+import { conflictsAt, shortConflicts } from '../session/conflicts.js';
+import { find, setAttribute } from '../base/elements.js';
+import { bringRow, eventBeside, showRow } from '../forms/events.js';
+import { minutesOfDiagram } from '../session/extent.js';
 import { minutesOn } from './frames.js';
-import { isFinger, minutesOfKey, tellHandle } from './handles.js';
-import { beginMove, moveTrain, wantsFromHere } from './moving.js';
-import { clock, eventName, labelOf } from './names.js';
-import { shown } from './shown.js';
-import { showActivity } from './spans.js';
-import { unfold } from './unfolding.js';
+import { isFinger, minutesOfKey, tellHandle } from '../forms/handles.js';
+import { beginMove, moveTrain, wantsFromHere } from '../forms/moving.js';
+import { clock, eventName, labelOf } from '../session/names.js';
+import { shown } from '../session/shown.js';
+import { showActivity } from '../forms/spans.js';
+import { unfold } from '../forms/unfolding.js';
 
 const DIAGRAMS = ['diagram', 'corridor'], VIEWS = [...DIAGRAMS, 'netgraph', 'board', 'tables'];
 

@@ -1,10 +1,10 @@
 // Connections by station, for paper: which train passengers come from, into which they change, and how long that takes.
 
-import { element, elided, rowOf, tableOf } from './elements.js';
-import { labelOf, lengthText, spanText, trainName } from './names.js';
-import { shown } from './shown.js';
+import { element, elided, rowOf, tableOf } from '../base/elements.js';
+import { labelOf, lengthText, spanText, trainName } from '../session/names.js';
+import { shown } from '../session/shown.js';
 import { minuteText } from './tables.js';
-import { minutesHad } from './viewing.js';
+import { minutesHad } from '../base/viewing.js';
 
 const MOST_ROWS = 2000, NO_CONNECTIONS = ['headway', 'turn', 'turnaround', 'run', 'dwell'];
 const HEADS = ['from', 'arrives', 'into', 'leaves', 'takes', 'may take'];

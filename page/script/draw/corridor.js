@@ -1,8 +1,8 @@
 // The corridor: stations that were chosen, and those on the shortest ways between them.
 
-import { say } from './elements.js';
-import { redraw } from './session.js';
-import { shown } from './shown.js';
+import { say } from '../base/elements.js';
+import { redraw } from '../session/session.js';
+import { shown } from '../session/shown.js';
 import { neighboursOf, wayBetween } from './ways.js';
 
 let kept = { chosen: [], stations: [], gaps: [] };

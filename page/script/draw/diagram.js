@@ -1,21 +1,21 @@
 // The distance-time diagram of a line: minutes across, stations down, as far apart as trains need at least. The marks along
 // a station are the minutes at which its events can still be.
 
-import { drawing, element, elided, find, renew, setAttribute, setText } from './elements.js';
+import { drawing, element, elided, find, renew, setAttribute, setText } from '../base/elements.js';
 import { copiesOf, frameOf, gridOf, heightOf, looksOf, TURN, waysOf } from './frames.js';
 import { conflictMarks, marked, reachesOf, ringAt } from './marking.js';
-import { shiftText } from './moving.js';
-import { bareClock, labelOf, runsOf } from './names.js';
+import { shiftText } from '../forms/moving.js';
+import { bareClock, labelOf, runsOf } from '../session/names.js';
 import { firstRuns } from './nearby.js';
 import { drawPart, isSame, makePart } from './parts.js';
-import { chooseLine } from './session.js';
-import { shown } from './shown.js';
-import { sizeNow } from './sizes.js';
+import { chooseLine } from '../session/session.js';
+import { shown } from '../session/shown.js';
+import { sizeNow } from '../session/sizes.js';
 import { stretchOf } from './stretch.js';
-import { isTab } from './tabs.js';
-import { undrawnText } from './timed.js';
-import { isForward, timedParts } from './trains.js';
-import { minutesHad } from './viewing.js';
+import { isTab } from '../session/tabs.js';
+import { undrawnText } from '../base/timed.js';
+import { isForward, timedParts } from '../session/trains.js';
+import { minutesHad } from '../base/viewing.js';
 
 const TURNS = ['', 'turn', 'turnaround'], MOST_TURNS = 200, MOST_OTHERS = 2000;
 // What is drawn among the stations, from below upwards.

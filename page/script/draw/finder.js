@@ -1,6 +1,6 @@
 // A field that lists what is found as one types: arrow keys go through the list, Enter or a click takes one, Escape closes it.
 
-import { element } from './elements.js';
+import { element } from '../base/elements.js';
 
 const fields = [];
 

@@ -1,13 +1,13 @@
 // Stations, lines, trains and events by what is typed of their names: all words have to stand there, in any order, without accents.
 
-import { find, say } from './elements.js';
-import { showBar, showRow } from './events.js';
-import { isField } from './fields.js';
+import { find, say } from '../base/elements.js';
+import { showBar, showRow } from '../forms/events.js';
+import { isField } from '../forms/fields.js';
 import { fillFinder } from './finder.js';
-import { eventName, labelOf, trainName } from './names.js';
+import { eventName, labelOf, trainName } from '../session/names.js';
 import { lookAt } from './netgraph.js';
-import { shown } from './shown.js';
-import { showTab } from './tabs.js';
+import { shown } from '../session/shown.js';
+import { showTab } from '../session/tabs.js';
 
 const MOST = { station: 5, line: 5, train: 5, event: 8 };
 const fold = text => text.normalize('NFD').replace(/\p{M}/gu, '').toLowerCase();

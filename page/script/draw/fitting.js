@@ -1,7 +1,7 @@
 // The netgraph fills its view where its names can be read then; where it is larger or zoomed, it is scrolled.
 
-import { find } from './elements.js';
-import { spaceOf } from './sizes.js';
+import { find } from '../base/elements.js';
+import { spaceOf } from '../session/sizes.js';
 
 const LEAST = 0.56, MOST = 12;
 let zoom = 1;

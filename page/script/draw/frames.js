@@ -1,7 +1,7 @@
 // Where minutes and stations lie in a distance-time diagram, and what is drawn there of any trains.
 
-import { drawing } from './elements.js';
-import { clock, labelOf, shortText, stepOf } from './names.js';
+import { drawing } from '../base/elements.js';
+import { clock, labelOf, shortText, stepOf } from '../session/names.js';
 
 const RIGHT = 16, TOP = 34, BOTTOM = 26, LEAST_HEIGHT = 190, TRACK = 48, CLOSE = 22, LEAST_SEEN = 90, MOST_LETTERS = 120;
 // What names of stations take of the width, and how many letters of them: less where there is little.

@@ -1,7 +1,7 @@
 // The activities of each kind for a report, dearest first, with their share of the cost.
 
-import { drawing, element, elided, rowOf, tableOf } from './elements.js';
-import { activityName, lengthText, spanText } from './names.js';
+import { drawing, element, elided, rowOf, tableOf } from '../base/elements.js';
+import { activityName, lengthText, spanText } from '../session/names.js';
 
 const HEADS = ['Activity', 'no.', 'span', 'takes', 'slack', 'weight', 'cost'], MOST_ROWS = 5000, BAR = 120;
 

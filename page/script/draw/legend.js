@@ -1,6 +1,6 @@
 // The legend at the top: what each mark is, drawn as it is where it stands.
 
-import { drawing, element, find } from './elements.js';
+import { drawing, element, find } from '../base/elements.js';
 
 const path = (d, look) => drawing('path', { d, ...look });
 const ground = path('M0 2H24V12H0Z', { fill: 'var(--track)' });

@@ -1,8 +1,8 @@
 // What is drawn upon a diagram: what can be taken hold of, unseen and wider than what is drawn, and what is violated, in red with
 // the minutes had and wanted.
 
-import { conflictsOf, isOutside, outsideText, toldConflicts } from './conflicts.js';
-import { drawing, elided } from './elements.js';
+import { conflictsOf, isOutside, outsideText, toldConflicts } from '../session/conflicts.js';
+import { drawing, elided } from '../base/elements.js';
 import { copiesOf, heightOf, waysOf } from './frames.js';
 
 const MOST_BROKEN = 200, LETTER = 7.4, ROW = 13, TRIES = [0, -1, 1, -2, 2, -3, 3], MARK = '✕';

@@ -1,11 +1,11 @@
 // What a timetable would move, in edits, in words, and on the strips.
 
-import { timeEdits } from './edits.js';
-import { element, findAll } from './elements.js';
-import { eventName, minutesText, oldText, trainName } from './names.js';
-import { timesNow } from './session.js';
-import { shown } from './shown.js';
-import { trainAt } from './trains.js';
+import { timeEdits } from '../base/edits.js';
+import { element, findAll } from '../base/elements.js';
+import { eventName, minutesText, oldText, trainName } from '../session/names.js';
+import { timesNow } from '../session/session.js';
+import { shown } from '../session/shown.js';
+import { trainAt } from '../session/trains.js';
 
 // So many trains are told by their names.
 const MOST_NAMED = 2;

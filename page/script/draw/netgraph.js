@@ -4,21 +4,21 @@
 import { drawAlarms, makeAlarm } from './alarms.js';
 import { beside } from './apart.js';
 import { labelPlace, LANE, LETTERS, NAME, spanOfName } from './captions.js';
-import { isAlarming } from './conflicts.js';
-import { drawing, find, findAll, setText } from './elements.js';
+import { isAlarming } from '../session/conflicts.js';
+import { drawing, find, findAll, setText } from '../base/elements.js';
 import { fitMap } from './fitting.js';
 import { lengthsOf } from './frames.js';
 import { mostNumbers } from './lanes.js';
-import { labelOf, oldText, shortText } from './names.js';
+import { labelOf, oldText, shortText } from '../session/names.js';
 import { nearby } from './nearby.js';
 import { layOut } from './places.js';
-import { redraw } from './session.js';
-import { shown } from './shown.js';
-import { spaceOf } from './sizes.js';
+import { redraw } from '../session/session.js';
+import { shown } from '../session/shown.js';
+import { spaceOf } from '../session/sizes.js';
 import { atOnce, inSlices } from './slices.js';
 import { angleBetween, spread } from './spreading.js';
 import { minuteText } from './tables.js';
-import { isTab } from './tabs.js';
+import { isTab } from '../session/tabs.js';
 
 const AREA = 1020 * 640, MARGIN = 64, RATIOS = [1, 1020 / 640, 2.2], EDGE = 8, STATIONS_OF_A_PAGE = 14, RING = 11;
 // What the name of a line takes of a track with some space, and what each number takes at each of its ends.

@@ -1,8 +1,8 @@
 // What is printed: some lines, which are all at first, and boards of some stations.
 
-import { element, find } from './elements.js';
-import { labelOf } from './names.js';
-import { shown } from './shown.js';
+import { element, find } from '../base/elements.js';
+import { labelOf } from '../session/names.js';
+import { shown } from '../session/shown.js';
 
 const ALL = { lines: null, boards: new Set() };
 let kept = ALL;

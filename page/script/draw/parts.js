@@ -1,6 +1,6 @@
 // A part of a drawing, which is made anew just where something that it shows is another one than before.
 
-import { drawing, renew } from './elements.js';
+import { drawing, renew } from '../base/elements.js';
 
 export const isSame = (one, other) => one.length === other.length && one.every((each, place) => each === other[place]);
 

@@ -2,15 +2,15 @@
 
 import { boardOf } from './board.js';
 import { connectionTables } from './connections.js';
-import { element, find } from './elements.js';
-import { lengthText } from './names.js';
+import { element, find } from '../base/elements.js';
+import { lengthText } from '../session/names.js';
 import { netgraphOf } from './netgraph.js';
 import { boardsOnPaper, linesOnPaper } from './papers.js';
-import { session } from './session.js';
-import { shown } from './shown.js';
+import { session } from '../session/session.js';
+import { shown } from '../session/shown.js';
 import { tablesOf } from './tables.js';
-import { untimedText } from './timed.js';
-import { countViolated } from './viewing.js';
+import { untimedText } from '../base/timed.js';
+import { countViolated } from '../base/viewing.js';
 
 const summary = view => {
   const { title } = session.opened, count = countViolated(view);

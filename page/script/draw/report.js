@@ -1,20 +1,20 @@
 // A report: what the Python package has asked the program of a network, drawn as it is printed and without hands. All numbers in it are
 // those of replies to the package; the module in this page is asked nothing until the reader wants to change something.
 
-import { conflictsOf } from './conflicts.js';
+import { conflictsOf } from '../session/conflicts.js';
 import { connectionTables } from './connections.js';
-import { element, elided, find, rowOf, tableOf, tellReady } from './elements.js';
+import { element, elided, find, rowOf, tableOf, tellReady } from '../base/elements.js';
 import { kindTables } from './kinds.js';
-import { activityName, clock, domainText, eventName, lengthText, minutesText, spanMinutes, windowText } from './names.js';
+import { activityName, clock, domainText, eventName, lengthText, minutesText, spanMinutes, windowText } from '../session/names.js';
 import { netgraphOf } from './netgraph.js';
-import { baseOf } from './network.js';
+import { baseOf } from '../base/network.js';
 import { NETGRAPH_NOTE } from './printing.js';
-import { exactly } from './replies.js';
-import { stripPicture } from './rows.js';
-import { openBase, readView } from './session.js';
-import { shown } from './shown.js';
+import { exactly } from '../base/replies.js';
+import { stripPicture } from '../forms/rows.js';
+import { openBase, readView } from '../session/session.js';
+import { shown } from '../session/shown.js';
 import { tablesOf } from './tables.js';
-import { countViolated, isInfeasible } from './viewing.js';
+import { countViolated, isInfeasible } from '../base/viewing.js';
 
 const MOST_STRIPS = 2000, MOST_VIOLATED = 500;
 

@@ -1,11 +1,11 @@
 // How the stations of a corridor are chosen: by name, by a click on the netgraph, or all of a line.
 
 import { chooseCorridor, corridor, switchStation } from './corridor.js';
-import { element, elided, find, findAll, setText } from './elements.js';
+import { element, elided, find, findAll, setText } from '../base/elements.js';
 import { fillFinder } from './finder.js';
 import { matches } from './finding.js';
-import { shown } from './shown.js';
-import { isTab, showTab } from './tabs.js';
+import { shown } from '../session/shown.js';
+import { isTab, showTab } from '../session/tabs.js';
 
 const MOST_CHIPS = 40;
 

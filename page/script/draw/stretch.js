@@ -1,7 +1,7 @@
 // The part of a line that its diagram draws: all of it, or where it is too long the stations about the chosen event.
 
-import { labelOf } from './names.js';
-import { partsWhere } from './trains.js';
+import { labelOf } from '../session/names.js';
+import { partsWhere } from '../session/trains.js';
 
 const MOST_STRETCH = 120;
 // So many stops of trains are drawn with all stations of a line.

@@ -1,13 +1,13 @@
 // The table of each line: stations down, and for each train the minutes at which it arrives and leaves across. On
 // paper the diagram of each line stands below.
 
-import { conflictsOfRow, isAlarming, isOutside, outsideText, shortConflicts, toldConflicts } from './conflicts.js';
+import { conflictsOfRow, isAlarming, isOutside, outsideText, shortConflicts, toldConflicts } from '../session/conflicts.js';
 import { diagramOf } from './diagram.js';
-import { element, find, rowOf, setAttribute, setText, tableOf } from './elements.js';
-import { bareClock, domainText, eventName, windowText } from './names.js';
-import { shown } from './shown.js';
-import { isTab } from './tabs.js';
-import { isForward } from './trains.js';
+import { element, find, rowOf, setAttribute, setText, tableOf } from '../base/elements.js';
+import { bareClock, domainText, eventName, windowText } from '../session/names.js';
+import { shown } from '../session/shown.js';
+import { isTab } from '../session/tabs.js';
+import { isForward } from '../session/trains.js';
 
 // The cells of the tables on the screen, by events; null where they are to be made anew.
 let kept = null;

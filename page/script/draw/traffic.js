@@ -2,17 +2,17 @@
 
 import { bandsOf, keptFree } from './bands.js';
 import { corridor } from './corridor.js';
-import { drawing, find, renew, setText } from './elements.js';
+import { drawing, find, renew, setText } from '../base/elements.js';
 import { copiesOf, frameOf, heightOf, pathsOf, sheetOf } from './frames.js';
 import { conflictMarks, reachesOf, ringAt } from './marking.js';
-import { shiftText } from './moving.js';
-import { clock, labelOf, shortText, trainName } from './names.js';
-import { shown } from './shown.js';
-import { sizeNow } from './sizes.js';
+import { shiftText } from '../forms/moving.js';
+import { clock, labelOf, shortText, trainName } from '../session/names.js';
+import { shown } from '../session/shown.js';
+import { sizeNow } from '../session/sizes.js';
 import { piecesOf, stretchOf } from './stretch.js';
-import { isTab } from './tabs.js';
-import { undrawnText } from './timed.js';
-import { timedParts, trainPart } from './trains.js';
+import { isTab } from '../session/tabs.js';
+import { undrawnText } from '../base/timed.js';
+import { timedParts, trainPart } from '../session/trains.js';
 import { AS_LONG } from './ways.js';
 
 const NOTE = 'A band after a train: the minutes that its headways keep free. Red: violated, with the minutes had and wanted.', REACH = 12;

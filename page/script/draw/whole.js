@@ -1,9 +1,9 @@
 // A picture has the whole screen, with cost and violations above it: by its box, or by F, until F or Escape.
 
-import { find } from './elements.js';
-import { isField } from './fields.js';
-import { redraw } from './session.js';
-import { forgetRooms } from './sizes.js';
+import { find } from '../base/elements.js';
+import { isField } from '../forms/fields.js';
+import { redraw } from '../session/session.js';
+import { forgetRooms } from '../session/sizes.js';
 
 const show = isWhole => {
   find('large').checked = isWhole;

@@ -1,15 +1,15 @@
 // Strips and pictures are zoomed and moved: by the wheel, keys, two fingers, a drag beside all trains, and buttons.
 
-import { find, setText } from './elements.js';
-import { bringMinute, isShown, isTwice, isZoomed, minutesOfDiagram, minutesOfStrips, shiftMinutes, showAll, showTwice, zoomMinutes } from './extent.js';
-import { isField } from './fields.js';
+import { find, setText } from '../base/elements.js';
+import { bringMinute, isShown, isTwice, isZoomed, minutesOfDiagram, minutesOfStrips, shiftMinutes, showAll, showTwice, zoomMinutes } from '../session/extent.js';
+import { isField } from '../forms/fields.js';
 import { mapZoom, showWholeMap, zoomMap } from './fitting.js';
 import { minutesOn } from './frames.js';
-import { isFinger } from './handles.js';
-import { clock } from './names.js';
-import { redraw } from './session.js';
-import { shown } from './shown.js';
-import { isTab } from './tabs.js';
+import { isFinger } from '../forms/handles.js';
+import { clock } from '../session/names.js';
+import { redraw } from '../session/session.js';
+import { shown } from '../session/shown.js';
+import { isTab } from '../session/tabs.js';
 
 const DIAGRAMS = ['diagram', 'corridor'], MAP = 'netgraph', STRIPS = 'events', STEP = 1.5, FULL_WHEEL = 500, LEAST_MOVE = 3, LEAST_APART = 20;
 const OF_MINUTES = [...DIAGRAMS, STRIPS];

@@ -2,8 +2,8 @@
 // fields, and points in numbers. What was converted is told. The file itself stays as it is. Texts come and go in parts.
 
 import { encodingOf, textsIn } from './decoding.js';
-import { quoted } from './labels.js';
-import { fieldsIn, recordAt, rowsOfParts } from './records.js';
+import { quoted } from '../base/labels.js';
+import { fieldsIn, recordAt, rowsOfParts } from '../base/records.js';
 
 // How many columns of numbers a file has, and the first of them in which a decimal comma can stand.
 const COLUMNS = { activities: [6, 3], fixed: [2, 1], times: [2, 1], windows: [3, 1] };

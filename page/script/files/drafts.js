@@ -1,14 +1,14 @@
 // Drafts: what is not saved, kept in the browser where the planner says so, and offered when the page is opened the next time.
 // Each page writes one of its own, which it holds as long as it is open; of one that another page holds it opens a copy.
 
-import { beginsEdit } from './edits.js';
-import { element, find, say, sayMore, setText } from './elements.js';
+import { beginsEdit } from '../base/edits.js';
+import { element, find, say, sayMore, setText } from '../base/elements.js';
 import { filesOf, isSaved } from './filing.js';
 import { namesHeld, takeHold, untilFree } from './holding.js';
-import { keepingKeys } from './keeping.js';
-import { labelsText, readLabels } from './labels.js';
-import { linesOfStep, session } from './session.js';
-import { shown } from './shown.js';
+import { keepingKeys } from '../base/keeping.js';
+import { labelsText, readLabels } from '../base/labels.js';
+import { linesOfStep, session } from '../session/session.js';
+import { shown } from '../session/shown.js';
 import { openTexts } from './texts.js';
 
 const CHOICE = 'pespbench-keep', KEY = 'pespbench-draft-', DELAY = 300, MOST_STEPS = 100000;

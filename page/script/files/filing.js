@@ -1,10 +1,10 @@
 // The files of the state that is shown, in the forms that the program and the Python package read, and which of them were saved.
 
-import { labelsText, placesText } from './labels.js';
-import { rowsOf, rowsText } from './network.js';
-import { trimmed } from './records.js';
-import { session } from './session.js';
-import { shown } from './shown.js';
+import { labelsText, placesText } from '../base/labels.js';
+import { rowsOf, rowsText } from '../base/network.js';
+import { trimmed } from '../base/records.js';
+import { session } from '../session/session.js';
+import { shown } from '../session/shown.js';
 
 const FORBIDDEN = /[\\/:*?"<>|\u0000-\u001f\u007f]+/g;
 // Of a longer title no more is looked at.

@@ -1,9 +1,9 @@
 // Hands a network over: the name under which it is saved, and a link that has it.
 
-import { find, setText } from './elements.js';
+import { find, setText } from '../base/elements.js';
 import { filesToSave, folderFiles } from './filing.js';
 import { fragmentOf } from './linking.js';
-import { nameNetwork, session } from './session.js';
+import { nameNetwork, session } from '../session/session.js';
 
 const nameIt = () => {
   const title = find('saving-name').value.trim();

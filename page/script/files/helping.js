@@ -1,7 +1,7 @@
 // What a file has that a fault comes from where it was not converted, and what mends it.
 
 import { HELP_WITH_SHEETS } from './forms.js';
-import { fieldsIn } from './records.js';
+import { fieldsIn } from '../base/records.js';
 
 const FAULT = /^(\w+) file, record ([0-9]+): /;
 const TABS = 'Tabs stand between its fields. Save it with semicolons between them, or with commas.';

@@ -1,9 +1,9 @@
 // A link that has the network in its fragment, which no browser sends: the files of a saved folder, packed, after their checksum.
 
 import { checksum, inflated } from './archive.js';
-import { find, say } from './elements.js';
+import { find, say } from '../base/elements.js';
 import { offerFiles, tellOpening } from './opening.js';
-import { session } from './session.js';
+import { session } from '../session/session.js';
 
 const MARK = '#network=';
 // The most letters of a fragment, and the most bytes that it unpacks to.

@@ -1,18 +1,18 @@
 // Opens files: dropped, chosen, or of a folder or an archive that was saved. What each file is is told by its name, and can be
 // said otherwise before it is opened. The program reads activities, fixed times and times; the page reads its own files alone.
 
-import { addLabels } from './adding.js';
+import { addLabels } from '../forms/adding.js';
 import { MOST_BYTES } from './archive.js';
-import { convertLong } from './asking.js';
+import { convertLong } from '../search/asking.js';
 import { convert } from './converting.js';
 import { sourceOf, textsIn } from './decoding.js';
-import { element, find, say, setText } from './elements.js';
+import { element, find, say, setText } from '../base/elements.js';
 import { isSaved } from './filing.js';
 import { sheetsAmong } from './forms.js';
 import { blobsOf, droppedFiles } from './gathering.js';
 import { helpFor } from './helping.js';
-import { showLining } from './lining.js';
-import { session } from './session.js';
+import { showLining } from '../forms/lining.js';
+import { session } from '../session/session.js';
 import { stories } from './stories.js';
 import { openTexts } from './texts.js';
 

@@ -1,10 +1,10 @@
 // Saves the state: the files of a saved folder, in the forms that the program and the Python package read, and the lines.
 
 import { zipOf } from './archive.js';
-import { element, find } from './elements.js';
+import { element, find } from '../base/elements.js';
 import { filesToSave, folderFiles, folderName, isSaved, noteSaved } from './filing.js';
 import { showHanding } from './handing.js';
-import { askSession, journal } from './session.js';
+import { askSession, journal } from '../session/session.js';
 
 const TOLD = {
   activities: 'for the program', fixed: 'fixed times, for the program', times: 'the working timetable, for the program',

@@ -1,11 +1,11 @@
 // A network from the texts of its files.
 
-import { play } from './asking.js';
-import { beginsEdit, edit, timeEdits } from './edits.js';
-import { noLabels, readLabels, readPlaces } from './labels.js';
-import { EVENTS, numberIn, numbersIn, RESIDUES, rowsIn } from './records.js';
-import { openBase } from './session.js';
-import { isAdopt, timesOfFile } from './times.js';
+import { play } from '../search/asking.js';
+import { beginsEdit, edit, timeEdits } from '../base/edits.js';
+import { noLabels, readLabels, readPlaces } from '../base/labels.js';
+import { EVENTS, numberIn, numbersIn, RESIDUES, rowsIn } from '../base/records.js';
+import { openBase } from '../session/session.js';
+import { isAdopt, timesOfFile } from '../base/times.js';
 
 // Edits and lines about times; a file of lines may have questions too, which make nothing.
 const makes = line => beginsEdit(line) || /^\s*adopt/.test(line);

@@ -1,14 +1,14 @@
 // Adds an activity between two chosen events, drops activities and events, and names an event. Each is a step.
 
-import { edit } from './edits.js';
-import { element, find, say } from './elements.js';
+import { edit } from '../base/edits.js';
+import { element, find, say } from '../base/elements.js';
 import { showRow } from './events.js';
 import { factForm, minutesTyped } from './fields.js';
-import { readLabels } from './labels.js';
+import { readLabels } from '../base/labels.js';
 import { addActivity, beginMade, doMade, dropEvents } from './making.js';
-import { activityName, eventName, labelOf } from './names.js';
-import { doStep, redraw, session } from './session.js';
-import { shown, within } from './shown.js';
+import { activityName, eventName, labelOf } from '../session/names.js';
+import { doStep, redraw, session } from '../session/session.js';
+import { shown, within } from '../session/shown.js';
 
 const KINDS = ['run', 'dwell', 'change', 'turn', 'headway'], OF_ONE_STATION = ['dwell', 'change', 'turn', 'turnaround', 'transfer'];
 let from = null, opened = null, drawn = '';

@@ -1,12 +1,12 @@
 // What is done with a line as a whole: it is renamed, copied, given trains an hour or a stop, and dropped. Each is one step.
 
-import { element, find, setText } from './elements.js';
+import { element, find, setText } from '../base/elements.js';
 import { minutesTyped, submits } from './fields.js';
 import { addStop, pairsOf } from './halting.js';
 import { spanOf } from './lining.js';
 import { beginMade, copyEvents, doMade, dropEvents } from './making.js';
-import { minutesText } from './names.js';
-import { shown } from './shown.js';
+import { minutesText } from '../session/names.js';
+import { shown } from '../session/shown.js';
 import { hourlyText, rhythmOf, setRhythm, tiedTrains } from './twins.js';
 
 let name = null;

@@ -1,8 +1,8 @@
 // The minutes above the strips, and which of them the strips show.
 
-import { element, find } from './elements.js';
-import { minutesOfStrips } from './extent.js';
-import { clock, stepOf } from './names.js';
+import { element, find } from '../base/elements.js';
+import { minutesOfStrips } from '../session/extent.js';
+import { clock, stepOf } from '../session/names.js';
 
 let drawn = '';
 

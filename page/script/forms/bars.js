@@ -1,13 +1,13 @@
 // The head of a train above its events, with a bar from its first minute to its last, by which the train is moved.
 
-import { conflictsAt, isAlarming, isOutside, outsideText } from './conflicts.js';
-import { drawing, element, setAttribute, setText } from './elements.js';
+import { conflictsAt, isAlarming, isOutside, outsideText } from '../session/conflicts.js';
+import { drawing, element, setAttribute, setText } from '../base/elements.js';
 import { isFinger, makeHandle, minutesOfKey, tellHandle, unitAt } from './handles.js';
 import { beginMove, moveTrain, shiftText, wantsFromHere } from './moving.js';
-import { clock, trainName, twinText } from './names.js';
-import { choose } from './session.js';
-import { shown } from './shown.js';
-import { isStaying, timedParts } from './trains.js';
+import { clock, trainName, twinText } from '../session/names.js';
+import { choose } from '../session/session.js';
+import { shown } from '../session/shown.js';
+import { isStaying, timedParts } from '../session/trains.js';
 
 export const makeBar = (line, train) => {
   const bar = { train, drawn: '', way: null, note: element('span', { class: 'note' }) }, [first] = train.events;

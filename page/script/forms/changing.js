@@ -1,10 +1,10 @@
 // What a step changes: the cost and the count of what is violated, beside those of the state before it.
 
-import { find, say } from './elements.js';
+import { find, say } from '../base/elements.js';
 import { leftText } from './moving.js';
-import { session } from './session.js';
-import { untimedText } from './timed.js';
-import { countViolated } from './viewing.js';
+import { session } from '../session/session.js';
+import { untimedText } from '../base/timed.js';
+import { countViolated } from '../base/viewing.js';
 
 let opened = null, settled = null, drawn = null, before = null;
 

@@ -1,12 +1,12 @@
 // The departure of the chosen event's train, from which its other times follow by its least minutes; trains that are tied to it follow too.
 
-import { edit } from './edits.js';
-import { element, find, setText } from './elements.js';
+import { edit } from '../base/edits.js';
+import { element, find, setText } from '../base/elements.js';
 import { factForm, minuteOf, minutesField } from './fields.js';
-import { clock, labelOf, minuteField, trainName } from './names.js';
-import { doStep } from './session.js';
-import { shown } from './shown.js';
-import { trainAt } from './trains.js';
+import { clock, labelOf, minuteField, trainName } from '../session/names.js';
+import { doStep } from '../session/session.js';
+import { shown } from '../session/shown.js';
+import { trainAt } from '../session/trains.js';
 import { tiedTrains } from './twins.js';
 
 // The times of a train that leaves at a minute.

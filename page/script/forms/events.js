@@ -1,12 +1,12 @@
 // The events by train: the list of their rows, with a bar above those of each train.
 
 import { drawBar, makeBar } from './bars.js';
-import { conflictsOf } from './conflicts.js';
-import { element, find } from './elements.js';
-import { bringMinute } from './extent.js';
+import { conflictsOf } from '../session/conflicts.js';
+import { element, find } from '../base/elements.js';
+import { bringMinute } from '../session/extent.js';
 import { drawRow, makeRow } from './rows.js';
-import { choose, chooseAmong, redraw } from './session.js';
-import { shown } from './shown.js';
+import { choose, chooseAmong, redraw } from '../session/session.js';
+import { shown } from '../session/shown.js';
 
 const ROWS_OF_A_BLOCK = 40;
 // The pixels that the head of the rows takes of them.

@@ -1,11 +1,11 @@
 // The chosen event in words, with fields to say what holds it and when it is.
 
-import { edit } from './edits.js';
-import { element, find, setText } from './elements.js';
+import { edit } from '../base/edits.js';
+import { element, find, setText } from '../base/elements.js';
 import { clockTyped, factForm, minutesField, minutesTyped } from './fields.js';
-import { domainText, eventName, labelOf, lengthText, minuteField, unitText } from './names.js';
-import { doStep } from './session.js';
-import { shown } from './shown.js';
+import { domainText, eventName, labelOf, lengthText, minuteField, unitText } from '../session/names.js';
+import { doStep } from '../session/session.js';
+import { shown } from '../session/shown.js';
 import { letGo } from './strips.js';
 
 const fieldOf = id => minutesField({ id, required: true });

@@ -1,8 +1,8 @@
 // Fields for numbers. The program is given what is typed there, and says what it does not take.
 
-import { element, say } from './elements.js';
-import { clock, isOfHours, lengthText } from './names.js';
-import { shown } from './shown.js';
+import { element, say } from '../base/elements.js';
+import { clock, isOfHours, lengthText } from '../session/names.js';
+import { shown } from '../session/shown.js';
 
 const CLOCK = /^([+-]?)([0-9]*):([0-5][0-9])$/, FOUR_DIGITS = /^()(0[0-9])([0-5][0-9])$/, OF_A_DAY = /^()([0-2][0-9])([0-5][0-9])$/;
 

@@ -1,10 +1,10 @@
 // A stop that a line is given between two stations, in both directions.
 
-import { edit } from './edits.js';
+import { edit } from '../base/edits.js';
 import { addActivity, addEvent } from './making.js';
-import { labelOf } from './names.js';
-import { shown } from './shown.js';
-import { minutesHad } from './viewing.js';
+import { labelOf } from '../session/names.js';
+import { shown } from '../session/shown.js';
+import { minutesHad } from '../base/viewing.js';
 
 // The runs of a line's trains, each with its ends.
 const runsOf = ({ trains }) => trains.flatMap(({ events, steps }) => steps.map((step, place) => ({ run: shown.view.network.activities.get(step), after: events.slice(place + 1) })))

@@ -1,8 +1,8 @@
 // What is dragged, by a pointer or by keys. A drag shows what each of its lines would make, and its last line is one step.
 
-import { element, say, setAttribute } from './elements.js';
+import { element, say, setAttribute } from '../base/elements.js';
 import { doByHand, leaveHand, showHand } from './rest.js';
-import { refresh } from './session.js';
+import { refresh } from '../session/session.js';
 
 // So many pixels a pointer moves before it drags, so that a click changes nothing.
 const LEAST_MOVE = 3;

@@ -1,6 +1,6 @@
 // What each number is, in words, beside it: a button with a question mark opens them.
 
-import { element, find, findAll } from './elements.js';
+import { element, find, findAll } from '../base/elements.js';
 
 const HELP = {
   size: ['The network', 'Events are departures and arrivals. An activity, as a run, a dwell, a change or a headway, says how many '

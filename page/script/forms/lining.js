@@ -1,10 +1,10 @@
 // A line that is typed as a table of its stops, and added as trains of one or of both directions, in one step.
 
-import { element, find, setText } from './elements.js';
+import { element, find, setText } from '../base/elements.js';
 import { showRow } from './events.js';
 import { minuteOf, minutesTyped, submits } from './fields.js';
 import { addActivity, addEvent, beginMade, doMade } from './making.js';
-import { shown } from './shown.js';
+import { shown } from '../session/shown.js';
 import { hourlyText, rhythmOf, tie } from './twins.js';
 
 const SPAN = /^([0-9:]+)(?:\s*(?:-|–|to)\s*([0-9:]+))?$/;

@@ -1,9 +1,9 @@
 // A step that adds or drops events and activities together with their names.
 
-import { edit, windowEdit } from './edits.js';
-import { find } from './elements.js';
-import { doStep } from './session.js';
-import { shown } from './shown.js';
+import { edit, windowEdit } from '../base/edits.js';
+import { find } from '../base/elements.js';
+import { doStep } from '../session/session.js';
+import { shown } from '../session/shown.js';
 
 // A number above all that are taken.
 const freeNumber = (...taken) => taken.reduce((most, keys) => [...keys].reduce((one, other) => Math.max(one, other), most), 0) + 1;

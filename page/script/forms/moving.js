@@ -1,16 +1,16 @@
 // Trains are moved: the events of one, and of those tied to it, from its first or another on, get times that are so many minutes later,
 // in one step. Those without a time are left. No window stops a train: what is left is violated, and told at its place.
 
-import { isOutside, outsideText } from './conflicts.js';
-import { edit } from './edits.js';
-import { element, find, say } from './elements.js';
+import { isOutside, outsideText } from '../session/conflicts.js';
+import { edit } from '../base/edits.js';
+import { element, find, say } from '../base/elements.js';
 import { factForm, minutesField, minutesTyped } from './fields.js';
 import { beginDrag } from './handles.js';
-import { eventName, labelOf, lengthText, minutesText, trainName } from './names.js';
+import { eventName, labelOf, lengthText, minutesText, trainName } from '../session/names.js';
 import { doByHand } from './rest.js';
-import { choose, redraw, timesNow } from './session.js';
-import { shown } from './shown.js';
-import { forgetStaying, isStaying, setStaying, trainAt } from './trains.js';
+import { choose, redraw, timesNow } from '../session/session.js';
+import { shown } from '../session/shown.js';
+import { forgetStaying, isStaying, setStaying, trainAt } from '../session/trains.js';
 import { tiedTrains } from './twins.js';
 
 // What is moved now or was last.

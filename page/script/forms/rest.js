@@ -1,13 +1,13 @@
 // The rest of a timetable follows a hand, where that is ticked: beside what is dragged, or was moved by a key, all other events are where
 // the best timetable has them, or the nearest one. A Worker of its own looks for it.
 
-import { timeEdits } from './edits.js';
-import { find, sayMore } from './elements.js';
-import { doStep, eventsMoved, extendStep, markNow, present, preview, stepNow, timesNow } from './session.js';
-import { shown } from './shown.js';
-import { stayingEvents } from './trains.js';
-import { turned } from './turning.js';
-import { soleWorker } from './workers.js';
+import { timeEdits } from '../base/edits.js';
+import { find, sayMore } from '../base/elements.js';
+import { doStep, eventsMoved, extendStep, markNow, present, preview, stepNow, timesNow } from '../session/session.js';
+import { shown } from '../session/shown.js';
+import { stayingEvents } from '../session/trains.js';
+import { turned } from '../base/turning.js';
+import { soleWorker } from '../base/workers.js';
 
 const follower = soleWorker(), NONE = { kind: '', edits: [] };
 

@@ -1,10 +1,10 @@
 // The row of an event: its name, its time, the strip of its domain with what holds it, and a word on that.
 
-import { conflictsOfRow, isOutside, shortConflicts, toldConflicts } from './conflicts.js';
-import { drawing, element, setText } from './elements.js';
+import { conflictsOfRow, isOutside, shortConflicts, toldConflicts } from '../session/conflicts.js';
+import { drawing, element, setText } from '../base/elements.js';
 import { makeHandle, tellHandle } from './handles.js';
-import { clock, domainText, eventName, eventShort, runsOf, twinText, windowText } from './names.js';
-import { shown } from './shown.js';
+import { clock, domainText, eventName, eventShort, runsOf, twinText, windowText } from '../session/names.js';
+import { shown } from '../session/shown.js';
 
 // An event's row, with what was drawn last, so that only what changed is drawn again.
 export const makeRow = event => {

@@ -1,16 +1,16 @@
 // The activities at the chosen event: their spans with ends to drag, and the tension and slack on them.
 
 import { dropActivity } from './adding.js';
-import { edit } from './edits.js';
-import { element, elided, find, setText } from './elements.js';
+import { edit } from '../base/edits.js';
+import { element, elided, find, setText } from '../base/elements.js';
 import { bringRow, showRow } from './events.js';
 import { minutesField, minutesTyped, numberField } from './fields.js';
 import { beginDrag, makeHandle, moveOf, tellHandle, unitAt } from './handles.js';
-import { activityName, kindOf, lengthText, minutesText, spanMinutes } from './names.js';
+import { activityName, kindOf, lengthText, minutesText, spanMinutes } from '../session/names.js';
 import { doByHand } from './rest.js';
-import { doStep } from './session.js';
-import { shown } from './shown.js';
-import { minutesHad } from './viewing.js';
+import { doStep } from '../session/session.js';
+import { shown } from '../session/shown.js';
+import { minutesHad } from '../base/viewing.js';
 
 // So many activities have a card; of more a word says so.
 const MOST_CARDS = 200;

@@ -1,17 +1,17 @@
 // Hands of the events: what is dragged, clicked and typed on their strips.
 
 import { addHere } from './adding.js';
-import { isOutside } from './conflicts.js';
-import { edit, windowEdit } from './edits.js';
-import { find } from './elements.js';
+import { isOutside } from '../session/conflicts.js';
+import { edit, windowEdit } from '../base/edits.js';
+import { find } from '../base/elements.js';
 import { eventBeside, rowAt, showRow } from './events.js';
 import { beginDrag, isFinger, minutesOfKey, moveOf, unitAt } from './handles.js';
 import { beginMove, moveTrain, wantsFromHere } from './moving.js';
 import { doByHand } from './rest.js';
-import { choose, doStep } from './session.js';
-import { shown } from './shown.js';
+import { choose, doStep } from '../session/session.js';
+import { shown } from '../session/shown.js';
 import { showActivity } from './spans.js';
-import { trainAt } from './trains.js';
+import { trainAt } from '../session/trains.js';
 import { unfold } from './unfolding.js';
 
 const modulo = (value, period) => ((value % period) + period) % period;

@@ -2,9 +2,9 @@
 // has one train. They have no changes of their own, since passengers take one of the trains.
 
 import { addActivity, copyEvents, dropEvents } from './making.js';
-import { trainName } from './names.js';
-import { shown } from './shown.js';
-import { trainAt } from './trains.js';
+import { trainName } from '../session/names.js';
+import { shown } from '../session/shown.js';
+import { trainAt } from '../session/trains.js';
 
 const TIE = 'twin', HOUR = 60;
 

@@ -1,6 +1,6 @@
 // Where there is little room the chosen event is one line below the others, which unfolds: by its button, and where it is chosen.
 
-import { find } from './elements.js';
+import { find } from '../base/elements.js';
 
 const show = isOn => {
   document.body.classList.toggle('unfolded', isOn);

@@ -1,15 +1,15 @@
 // Always the best: with a tick each step is followed by a search in a Worker of its own, and how far the timetable that is shown is above
 // the best is told, beside the rest that follows a hand.
 
-import { find, findAll, say, setText } from './elements.js';
+import { find, findAll, say, setText } from '../base/elements.js';
 import { aboveText } from './found.js';
 import { bestKnown } from './founds.js';
-import { isSure } from './replies.js';
-import { endRest, hearRest, restText } from './rest.js';
+import { isSure } from '../base/replies.js';
+import { endRest, hearRest, restText } from '../forms/rest.js';
 import { EVERY_CASE, foundNow, learnFound } from './searching.js';
-import { markNow, networkNow, present } from './session.js';
-import { shown } from './shown.js';
-import { soleWorker } from './workers.js';
+import { markNow, networkNow, present } from '../session/session.js';
+import { shown } from '../session/shown.js';
+import { soleWorker } from '../base/workers.js';
 
 // No step is searched for longer, in seconds; `ended` is the mark of the network that was searched last.
 const MOST_SECONDS = 60, searcher = soleWorker();

@@ -1,9 +1,9 @@
 // What the page has a Worker do, one thing at a time, so that it stays usable: searches, why there is none, what would help, and
 // long files of lines. A search is stopped between two steps of the Worker, which keeps it to be gone on with; all else by ending it.
 
-import { find, lead, say } from './elements.js';
-import { markNow, present, stepNow } from './session.js';
-import { startWorker } from './workers.js';
+import { find, lead, say } from '../base/elements.js';
+import { markNow, present, stepNow } from '../session/session.js';
+import { startWorker } from '../base/workers.js';
 
 const WORDS = {
   search: { busy: 'Searching …', stopped: 'the search was stopped', left: 'the search has ended with it' },

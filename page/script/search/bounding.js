@@ -1,10 +1,10 @@
 // A bound below which no timetable costs, by parts of a network: what each of them costs at least, together, since nothing costs less
 // than 0 between them. It is told where the program has none of the whole.
 
-import { baseOf, partsOf } from './network.js';
+import { baseOf, partsOf } from '../base/network.js';
 import { FIRST_NODES, paced } from './pacing.js';
-import { exactly, isSure } from './replies.js';
-import { openSession } from './running.js';
+import { exactly, isSure } from '../base/replies.js';
+import { openSession } from '../base/running.js';
 
 const MOST_EVENTS = 200;
 

@@ -2,15 +2,15 @@
 // is worked out, and taken over by a click.
 
 import { drawCurve, hasCost, makeCurve, priceText, shadesOf, summaryOf } from './curves.js';
-import { edit } from './edits.js';
-import { element, find, findAll, say, setText } from './elements.js';
-import { minutesOfKey, tellHandle, unitAt } from './handles.js';
-import { activityName, clock, eventName, minutesText } from './names.js';
+import { edit } from '../base/edits.js';
+import { element, find, findAll, say, setText } from '../base/elements.js';
+import { minutesOfKey, tellHandle, unitAt } from '../forms/handles.js';
+import { activityName, clock, eventName, minutesText } from '../session/names.js';
 import { carryPrices, hearPrices, isPricing, pricedMinutes, pricesOf, wantPrices } from './prices.js';
-import { doStep } from './session.js';
-import { shown } from './shown.js';
-import { rangeShown } from './spans.js';
-import { trainAt } from './trains.js';
+import { doStep } from '../session/session.js';
+import { shown } from '../session/shown.js';
+import { rangeShown } from '../forms/spans.js';
+import { trainAt } from '../session/trains.js';
 
 // An event of the train and the activities that were asked for; the minute that is looked at in a picture; and the frame that waits.
 let ofTrain = null, activities = new Set(), looked = { key: '', minute: null }, frame = 0;

@@ -1,8 +1,8 @@
 // The picture of what minutes cost: a curve above shades, over as many minutes as a track shows.
 
-import { element } from './elements.js';
-import { makeHandle } from './handles.js';
-import { domainText, minutesText } from './names.js';
+import { element } from '../base/elements.js';
+import { makeHandle } from '../forms/handles.js';
+import { domainText, minutesText } from '../session/names.js';
 
 const FLOOR = 12;
 

@@ -1,9 +1,9 @@
 // What searches of one network have come to: the best timetable, and a bound that no timetable is cheaper than; in a planner's words,
 // and beside the timetable that is shown.
 
-import { isSure } from './replies.js';
-import { turned } from './turning.js';
-import { isMet } from './viewing.js';
+import { isSure } from '../base/replies.js';
+import { turned } from '../base/turning.js';
+import { isMet } from '../base/viewing.js';
 
 // By how much a cost may be above the best, in thousandths of that and upwards, and the most for which per cents say something.
 const THOUSAND = 1000n, MOST = 10n * THOUSAND;

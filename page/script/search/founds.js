@@ -1,8 +1,8 @@
 // The timetables that were found, of networks by their marks: the cheapest ones of each, and of the last networks alone.
 
-import { markNow } from './session.js';
-import { shown } from './shown.js';
-import { isMet } from './viewing.js';
+import { markNow } from '../session/session.js';
+import { shown } from '../session/shown.js';
+import { isMet } from '../base/viewing.js';
 
 const MOST = 8, MOST_NETWORKS = 30, known = new Map(), NONE = [];
 

@@ -2,15 +2,15 @@
 // allows, beside the best one as it is. Each is a search; they are listed as they come, and one is taken over by a click.
 
 import { askFor } from './asking.js';
-import { edit, timeEdits } from './edits.js';
-import { element, elided, find, say, tableOf } from './elements.js';
+import { edit, timeEdits } from '../base/edits.js';
+import { element, elided, find, say, tableOf } from '../base/elements.js';
 import { bestKnown } from './founds.js';
-import { activityName, kindOf, spanMinutes, spanText } from './names.js';
-import { isSure } from './replies.js';
-import { doStep, markNow, redraw } from './session.js';
-import { shown } from './shown.js';
-import { showActivity } from './spans.js';
-import { isTab } from './tabs.js';
+import { activityName, kindOf, spanMinutes, spanText } from '../session/names.js';
+import { isSure } from '../base/replies.js';
+import { doStep, markNow, redraw } from '../session/session.js';
+import { shown } from '../session/shown.js';
+import { showActivity } from '../forms/spans.js';
+import { isTab } from '../session/tabs.js';
 
 const USUALLY_KEPT = ['run', 'dwell', 'headway'], MOST_ASKED = 2000, MOST_SHOWN = 200;
 const WAYS = {

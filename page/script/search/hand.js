@@ -1,11 +1,11 @@
 // What a Worker tells of the rest beside a hand: the best timetable, or the nearest one, of the network with what the hand changes, in
 // which events are where the hand has them.
 
-import { edit, editsOf } from './edits.js';
-import { follow } from './following.js';
+import { edit, editsOf } from '../base/edits.js';
+import { follow } from '../base/following.js';
 import { heldElsewhere, tellNearest } from './nearest.js';
 import { untilSure } from './pricing.js';
-import { does } from './running.js';
+import { does } from '../base/running.js';
 
 // What its searches change is as before afterwards.
 const tellBest = async (session, network, { edits, held, events }, tell, how) => {

@@ -3,9 +3,9 @@
 // which stands at 0, each event that may move has another one that comes after both the event and its given time, as soon as it may; the
 // minutes from both to it are those by which the event moves.
 
-import { baseOf } from './network.js';
-import { isSure } from './replies.js';
-import { openSession } from './running.js';
+import { baseOf } from '../base/network.js';
+import { isSure } from '../base/replies.js';
+import { openSession } from '../base/running.js';
 
 // A minute of a move costs more than all else together, as far as a weight may; and no search takes longer, in milliseconds.
 const MOST_WEIGHT = 1e9, MOST_TIME = 30000, FIRST_NODES = 1000, STEP = 250;

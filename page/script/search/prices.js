@@ -1,10 +1,10 @@
 // What minutes cost, as far as that is known, of the network that is shown. A Worker of its own works it out, beside whatever else is
 // done, until the next step.
 
-import { say } from './elements.js';
-import { markNow, present } from './session.js';
-import { shown } from './shown.js';
-import { soleWorker } from './workers.js';
+import { say } from '../base/elements.js';
+import { markNow, present } from '../session/session.js';
+import { shown } from '../session/shown.js';
+import { soleWorker } from '../base/workers.js';
 
 // Of networks by their marks, of each question by its key the prices by minute; of the last networks alone, with so many times.
 const known = new Map(), MOST_TIMES = 20000000, NONE = new Map();

@@ -1,9 +1,9 @@
 // What a minute costs, as a session tells it, which is as before afterwards: the least cost of a timetable that has an event at a
 // minute, whatever holds it now, or in which an activity takes so many minutes.
 
-import { edit, windowEdit } from './edits.js';
-import { exactly, isSure } from './replies.js';
-import { does } from './running.js';
+import { edit, windowEdit } from '../base/edits.js';
+import { exactly, isSure } from '../base/replies.js';
+import { does } from '../base/running.js';
 
 // No minute is searched for longer, in milliseconds; the first step of a search has so many nodes, and takes about so long.
 const MOST = 1500, FIRST_NODES = 1000, STEP = 100;

@@ -1,7 +1,7 @@
 // A session whose searches begin with a timetable that is known: they tell none that is dearer, and look for cheaper ones alone.
 
-import { edit, readEdit } from './edits.js';
-import { does, openSession, prepared } from './running.js';
+import { edit, readEdit } from '../base/edits.js';
+import { does, openSession, prepared } from '../base/running.js';
 
 // With more events it takes longer than it saves.
 const MOST_EVENTS = 3000;

@@ -2,10 +2,10 @@
 // the run, and each part that the set's activities join and no window holds is held at 0 somewhere: such a part can be turned
 // as a whole, so this takes no timetable away from which another could not be turned.
 
-import { windowEdit } from './edits.js';
-import { partsOf, rowsText } from './network.js';
-import { readFound } from './replies.js';
-import { run } from './running.js';
+import { windowEdit } from '../base/edits.js';
+import { partsOf, rowsText } from '../base/network.js';
+import { readFound } from '../base/replies.js';
+import { run } from '../base/running.js';
 
 const isBinding = (member, period) => member.of === 'event' ? member.bounds.length < period
   : member.bounds.upper - member.bounds.lower < period - 1;

@@ -2,18 +2,18 @@
 // nearest one, with what was moved held, which mends what is violated.
 
 import { askedNow, askFor } from './asking.js';
-import { element, find, say, setText } from './elements.js';
-import { isField } from './fields.js';
+import { element, find, say, setText } from '../base/elements.js';
+import { isField } from '../forms/fields.js';
 import { foundsOf, noteFound } from './founds.js';
-import { drawOld, editsToTimes, movesText } from './moves.js';
-import { eventName, minutesText } from './names.js';
-import { doStep, eventsMoved, markNow, preview, refresh, timesNow } from './session.js';
-import { shown } from './shown.js';
-import { isTab, showTab } from './tabs.js';
+import { drawOld, editsToTimes, movesText } from '../draw/moves.js';
+import { eventName, minutesText } from '../session/names.js';
+import { doStep, eventsMoved, markNow, preview, refresh, timesNow } from '../session/session.js';
+import { shown } from '../session/shown.js';
+import { isTab, showTab } from '../session/tabs.js';
 import { askWhy } from './telling.js';
-import { stayingEvents } from './trains.js';
-import { turned } from './turning.js';
-import { countViolated, isMet } from './viewing.js';
+import { stayingEvents } from '../session/trains.js';
+import { turned } from '../base/turning.js';
+import { countViolated, isMet } from '../base/viewing.js';
 
 // What is shown as proposed: its edits and words, and what the step is called that takes it; and what a search for one came to that shows
 // none, null where there is no such; and what was listed last.

@@ -1,15 +1,15 @@
 // Searches for the best timetable. What they have come to is told as they go, adopted by a click, while one runs too, and gone on from.
 
 import { askedNow, askFor, hearAsked, leaveAsked, stopAsking } from './asking.js';
-import { timeEdits } from './edits.js';
-import { find, lead, say, sayMore, setText } from './elements.js';
+import { timeEdits } from '../base/edits.js';
+import { find, lead, say, sayMore, setText } from '../base/elements.js';
 import { betterFound, comparedText, foundText, tookText } from './found.js';
 import { bestKnown, noteFound } from './founds.js';
 import { seeTimes, tellOffers } from './proposing.js';
-import { isSure } from './replies.js';
-import { doStep, markNow } from './session.js';
-import { shown } from './shown.js';
-import { turned } from './turning.js';
+import { isSure } from '../base/replies.js';
+import { doStep, markNow } from '../session/session.js';
+import { shown } from '../session/shown.js';
+import { turned } from '../base/turning.js';
 
 // The most that a search can be asked for.
 export const EVERY_CASE = 1e12;

@@ -1,15 +1,15 @@
 // The answer to why, in a planner's words; each mend is done by one click.
 
 import { askFor } from './asking.js';
-import { conflictsOf } from './conflicts.js';
-import { element, find, lead } from './elements.js';
-import { showRow } from './events.js';
+import { conflictsOf } from '../session/conflicts.js';
+import { element, find, lead } from '../base/elements.js';
+import { showRow } from '../forms/events.js';
 import { bestKnown } from './founds.js';
-import { activityName, eventName, minutesText, spanMinutes, spanText, windowText } from './names.js';
+import { activityName, eventName, minutesText, spanMinutes, spanText, windowText } from '../session/names.js';
 import { memberKey } from './probing.js';
-import { doStep, markNow, redraw } from './session.js';
-import { shown } from './shown.js';
-import { isTab, showTab } from './tabs.js';
+import { doStep, markNow, redraw } from '../session/session.js';
+import { shown } from '../session/shown.js';
+import { isTab, showTab } from '../session/tabs.js';
 
 let answer = null;
 

@@ -1,20 +1,20 @@
 // Two ways side by side: what is shown is kept as A or as B, and both are told beside each other. Where just one is kept, the other
 // is what is shown. They stay as long as the page, whatever else is opened.
 
-import { besideConnections, besideDiagram, besideTable } from './beside.js';
-import { editsBetween } from './between.js';
-import { diagramOf } from './diagram.js';
-import { costsBeside, differences } from './differing.js';
-import { element, elided, find, rowOf, say, tableOf } from './elements.js';
-import { showRow } from './events.js';
-import { isField } from './fields.js';
-import { movesText } from './moves.js';
-import { minutesText } from './names.js';
+import { besideConnections, besideDiagram, besideTable } from '../draw/beside.js';
+import { editsBetween } from '../base/between.js';
+import { diagramOf } from '../draw/diagram.js';
+import { costsBeside, differences } from '../session/differing.js';
+import { element, elided, find, rowOf, say, tableOf } from '../base/elements.js';
+import { showRow } from '../forms/events.js';
+import { isField } from '../forms/fields.js';
+import { movesText } from '../draw/moves.js';
+import { minutesText } from '../session/names.js';
 import { see } from './proposing.js';
-import { doStep, redraw, session, timesNow } from './session.js';
-import { shown, within } from './shown.js';
-import { isTab, showTab } from './tabs.js';
-import { countViolated } from './viewing.js';
+import { doStep, redraw, session, timesNow } from '../session/session.js';
+import { shown, within } from '../session/shown.js';
+import { isTab, showTab } from '../session/tabs.js';
+import { countViolated } from '../base/viewing.js';
 
 const NAMES = ['A', 'B'], MOST_TOLD = 300;
 const kept = new Map();

@@ -1,10 +1,10 @@
 // What would help: the best timetable with each of some spans wider alone, beside the best one as the network is. It begins with the one
 // that is known; each search has its time, and what it has come to then is told.
 
-import { readNetwork } from './network.js';
+import { readNetwork } from '../base/network.js';
 import { FIRST_NODES, paced } from './pacing.js';
 import { sessionFrom } from './priming.js';
-import { exactly, isSure } from './replies.js';
+import { exactly, isSure } from '../base/replies.js';
 
 // So many nodes a search has at most, and so many milliseconds: the first one, of the network as it is; and each other one where that
 // came to its end, and where it did not.

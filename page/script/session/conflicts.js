@@ -3,7 +3,7 @@
 
 import { activityName, kindOf, lengthText, minutesText, spanText, windowText } from './names.js';
 import { trainAt } from './trains.js';
-import { minutesHad } from './viewing.js';
+import { minutesHad } from '../base/viewing.js';
 
 const MOST_TOLD = 12, NONE = [];
 const known = new WeakMap();

@@ -1,6 +1,6 @@
 // What two networks with their timetables differ in, in the words of the Python package's `compare`: network, times, cost by kind.
 
-import { noLabels } from './labels.js';
+import { noLabels } from '../base/labels.js';
 import { activityName, clock, eventName, lengthText, minutesText, spanMinutes, spanText, windowText } from './names.js';
 import { within } from './shown.js';
 

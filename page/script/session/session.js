@@ -1,17 +1,17 @@
 // The session: what was opened, the steps since, and which of them are done. What is shown is what a session of the program tells,
 // which is kept open and asked the lines of each step alone; it can be opened anew from the base and all lines.
 
-import { editsOf } from './edits.js';
-import { say } from './elements.js';
-import { follow, neededBefore } from './following.js';
-import { keepingKeys } from './keeping.js';
-import { noLabels } from './labels.js';
+import { editsOf } from '../base/edits.js';
+import { say } from '../base/elements.js';
+import { follow, neededBefore } from '../base/following.js';
+import { keepingKeys } from '../base/keeping.js';
+import { noLabels } from '../base/labels.js';
 import { labelOf } from './names.js';
-import { does, look, openFirst, openSession, prepared, RunFault } from './running.js';
+import { does, look, openFirst, openSession, prepared, RunFault } from '../base/running.js';
 import { beginShown, setChosen, setChosenLine, setLabels, setView, shown } from './shown.js';
-import { ofTimed } from './timed.js';
+import { ofTimed } from '../base/timed.js';
 import { linesOf, trainsOf, twinsOf } from './trains.js';
-import { isInfeasible } from './viewing.js';
+import { isInfeasible } from '../base/viewing.js';
 
 const state = { opened: null, steps: [], place: 0 };
 

@@ -1,6 +1,6 @@
 // What is shown, and what of it is chosen. It is changed by the functions here alone, which draw nothing: session.js calls them.
 
-import { noLabels } from './labels.js';
+import { noLabels } from '../base/labels.js';
 
 let view = null, labels = noLabels(), places = new Map(), chosen = null, chosenLine = null;
 

@@ -1,6 +1,6 @@
 // How large the pictures on the screen are: they fill what their views leave them.
 
-import { find } from './elements.js';
+import { find } from '../base/elements.js';
 import { minutesOfDiagram } from './extent.js';
 import { redraw } from './session.js';
 import { shown } from './shown.js';

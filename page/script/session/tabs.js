@@ -1,6 +1,6 @@
 // One of the views on the right is shown at a time; each is drawn when it is.
 
-import { find } from './elements.js';
+import { find } from '../base/elements.js';
 import { redraw } from './session.js';
 import { forgetRooms } from './sizes.js';
 

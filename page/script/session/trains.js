@@ -2,7 +2,7 @@
 
 import { clock, labelOf } from './names.js';
 import { shown } from './shown.js';
-import { minutesHad } from './viewing.js';
+import { minutesHad } from '../base/viewing.js';
 
 // The style has so many colors of lines, other ones where it is dark.
 const COLORS = 10;
