@@ -65,10 +65,10 @@ const STARTS = [
 ];
 
 const start = async () => {
-  let told = null;
+  let report = null;
   try {
-    told = reportGiven();
-    if (told) await readReport(told);
+    report = reportGiven();
+    if (report) await readReport(report);
     await startProgram(await PespModule.compile(PESPBENCH_MODULE));
   } catch (fault) {
     find('cannot-why').textContent = String(fault);
@@ -77,7 +77,7 @@ const start = async () => {
   }
   addPanels(PANELS);
   for (const each of STARTS) each();
-  if (told) openReport(told);
+  if (report) openReport(report);
   else openStory(stories[0]);
   startLinks();
   await startDrafts();

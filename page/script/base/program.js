@@ -39,15 +39,15 @@ export const answer = run => {
 // the module does.
 export const openFiles = files => {
   const owner = moduleNow(), { session, fault } = called(owner, each => PespModule.open(each, files));
-  const told = call => {
+  const inSession = call => {
     const { ending, fault: why, ...more } = called(owner, call);
     return { ...more, fault: why, isWanting: MEMORY.includes(ending.status) };
   };
   const ask = line => {
-    const { output, ...more } = told(each => PespModule.ask(each, session, line));
+    const { output, ...more } = inSession(each => PespModule.ask(each, session, line));
     return { text: decoder.decode(output), ...more };
   };
-  const domains = PespModule.canTellDomains(owner) ? (...of) => told(each => PespModule.domains(each, session, ...of)) : null;
-  const search = nodes => told(each => PespModule.search(each, session, nodes));
+  const domains = PespModule.canTellDomains(owner) ? (...of) => inSession(each => PespModule.domains(each, session, ...of)) : null;
+  const search = nodes => inSession(each => PespModule.search(each, session, nodes));
   return { fault, ask, domains, search, close: () => called(owner, each => PespModule.close(each, session)) };
 };

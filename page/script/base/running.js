@@ -36,27 +36,27 @@ const isDone = (line, reply) => {
 
 /** What a session tells, where it is no fault.
  * @returns {any} */
-const toldBy = ({ fault, isWanting, ...told }) => {
+const withoutFault = ({ fault, isWanting, ...reply }) => {
   if (fault) throw new RunFault(fault, isWanting);
-  return told;
+  return reply;
 };
 
 // A session of the files of a base. `ask` gives the reply to a line, and the same one where it is told again; `domains` those of a
 // network; `search` what its search has come to after so many nodes more, its times by some events, with a bound. Raises RunFault.
 const sessionOf = base => {
-  const { fault, ask: askText, domains, search, close } = openFiles(base), told = new Map(), read = domainReader();
+  const { fault, ask: askText, domains, search, close } = openFiles(base), known = new Map(), read = domainReader();
   if (fault) throw new RunFault(fault);
   const ask = line => {
-    const { text } = toldBy(askText(line)), before = told.get(line);
+    const { text } = withoutFault(askText(line)), before = known.get(line);
     if (before && before.text === text) return before.reply;
     const reply = linesOfReply(text);
-    if (QUESTIONS.includes(line)) told.set(line, { text, reply });
+    if (QUESTIONS.includes(line)) known.set(line, { text, reply });
     return reply;
   };
   return {
     close, ask,
-    domains: ({ events, period }) => domains ? read(toldBy(domains(events, period)).bits, events, period) : readDomains(ask('domains')),
-    search: (nodes, events) => foundIn(toldBy(search(nodes)), events),
+    domains: ({ events, period }) => domains ? read(withoutFault(domains(events, period)).bits, events, period) : readDomains(ask('domains')),
+    search: (nodes, events) => foundIn(withoutFault(search(nodes)), events),
   };
 };
 

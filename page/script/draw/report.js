@@ -38,19 +38,19 @@ const domainsOf = ({ network: { events, period }, domains }) => {
 };
 
 // The view that a report has, with its labels and places; from then on it is the one that is shown.
-export const viewOfReport = told => {
+export const viewOfReport = report => {
   const view = {
-    network: networkOf(told.network), domains: domainsOf(told), times: new Map(told.times), labels: labelsOf(told.labels), missing: told.missing,
-    tensions: told.tensions && mapOf(told.tensions, ([tension, slack]) => ({ tension, slack })), cost: told.cost === null ? null : exactly(told.cost),
-    violations: told.violations && { activities: new Set(told.violations.activities), events: new Set(told.violations.events) },
+    network: networkOf(report.network), domains: domainsOf(report), times: new Map(report.times), labels: labelsOf(report.labels), missing: report.missing,
+    tensions: report.tensions && mapOf(report.tensions, ([tension, slack]) => ({ tension, slack })), cost: report.cost === null ? null : exactly(report.cost),
+    violations: report.violations && { activities: new Set(report.violations.activities), events: new Set(report.violations.events) },
   };
-  readView(view, new Map(told.places));
+  readView(view, new Map(report.places));
   return view;
 };
 
 // What is said above all where there is no timetable.
-const headline = (view, told) => {
-  if (told.isInfeasible || isInfeasible(view)) return 'No timetable meets everything.';
+const headline = (view, report) => {
+  if (report.isInfeasible || isInfeasible(view)) return 'No timetable meets everything.';
   const count = view.network.events.length, untimed = count - view.times.size;
   if (!untimed) return '';
   if (untimed === count) return 'There is no timetable yet.';
@@ -69,10 +69,10 @@ const figures = view => {
     ['events', network.events.length], ['activities', network.activities.size], ...view.cost === null ? [] : ofTimes].map(figure));
 };
 
-const summary = (view, told) => {
-  const line = headline(view, told), missing = view.missing && `${view.missing}, so nothing is said of slack, cost and violations.`;
-  const notes = [missing, told.search].filter(text => text && text !== line);
-  return element('section', { class: 'front' }, element('h1', {}, told.title), line && element('p', { class: 'headline' }, line),
+const summary = (view, report) => {
+  const line = headline(view, report), missing = view.missing && `${view.missing}, so nothing is said of slack, cost and violations.`;
+  const notes = [missing, report.search].filter(text => text && text !== line);
+  return element('section', { class: 'front' }, element('h1', {}, report.title), line && element('p', { class: 'headline' }, line),
     figures(view), ...notes.map(text => element('p', {}, text)));
 };
 
@@ -126,7 +126,7 @@ const narrowed = view => {
 const SAID = 'Times, possible minutes, slacks, violations and cost are replies of pespbench; names are those of the labels.';
 
 // All that a report shows.
-export const reportOf = (view, told) => [summary(view, told), ...violated(view), ...netgraph(view),
+export const reportOf = (view, report) => [summary(view, report), ...violated(view), ...netgraph(view),
   ...view.lines.length ? [part('lines', 'Lines', 'A framed minute is held. In the diagrams, stations are as far apart as trains need at least.', ...tablesOf(view, true))] : [],
   ...connectionTables(view), ...narrowed(view), ...kindTables(view), element('p', { class: 'quiet' }, SAID)];
 
@@ -137,10 +137,10 @@ export const reportGiven = () => {
 };
 
 // Shows it, until the reader wants to work on what it tells.
-export const readReport = told => new Promise(done => {
-  const view = viewOfReport(told), work = element('button', { class: 'main', id: 'work' }, 'Work on it');
-  document.title = [told.title, 'pespbench'].filter(Boolean).join(' – ');
-  find('printed').replaceChildren(element('p', { class: 'to-work' }, work, ' in this page, with all of the workbench.'), ...reportOf(view, told));
+export const readReport = report => new Promise(done => {
+  const view = viewOfReport(report), work = element('button', { class: 'main', id: 'work' }, 'Work on it');
+  document.title = [report.title, 'pespbench'].filter(Boolean).join(' – ');
+  find('printed').replaceChildren(element('p', { class: 'to-work' }, work, ' in this page, with all of the workbench.'), ...reportOf(view, report));
   document.body.classList.add('report');
   tellReady();
   work.addEventListener('click', () => {
@@ -151,7 +151,7 @@ export const readReport = told => new Promise(done => {
 });
 
 // Opens in the workbench what a report tells.
-export const openReport = told => {
-  const { network, times, labels } = viewOfReport(told), { places } = shown;
-  openBase(baseOf(network, times), { title: told.title, labels, places });
+export const openReport = report => {
+  const { network, times, labels } = viewOfReport(report), { places } = shown;
+  openBase(baseOf(network, times), { title: report.title, labels, places });
 };

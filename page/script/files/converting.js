@@ -176,11 +176,11 @@ const mended = (texts, kind, isCut, tell) => {
 
 // Gives the text of a file of a kind to `write`, part by part, and returns what was converted to read it.
 export const convert = (kind, source, write) => {
-  const encoding = encodingOf(source), told = WORDS[encoding] ? [WORDS[encoding]] : [], isOfRows = OF_ROWS.includes(kind);
+  const encoding = encodingOf(source), notes = WORDS[encoding] ? [WORDS[encoding]] : [], isOfRows = OF_ROWS.includes(kind);
   const given = () => textsIn(source, encoding), isCut = isOfRows && isTabbed(given()), texts = isCut ? () => rewritten(given(), '\t') : given;
-  if (isCut) told.push('tabs taken as separators');
+  if (isCut) notes.push('tabs taken as separators');
   const words = new Set(), tell = (word = 'decimal commas read as points') => words.add(word);
   const whole = (isOfRows && kind !== 'labels' && mended(texts, kind, isCut, tell)) || texts();
   for (const text of kind in COLUMNS ? withMinutes(whole, tell) : whole) write(text);
-  return [...told, ...words];
+  return [...notes, ...words];
 };

@@ -81,8 +81,8 @@ const draftOf = key => {
 
 const wordOf = ({ title, at, steps }, isHeld) => {
   const when = new Date(at).toLocaleString('en-GB', { dateStyle: 'long', timeStyle: 'short' });
-  const told = `A draft of “${title || 'a network'}” of ${when}, ${steps.length === 1 ? '1 step' : `${steps.length} steps`}, is`;
-  return isHeld ? `${told} open in another page.` : `${told} kept in this browser.`;
+  const sentence = `A draft of “${title || 'a network'}” of ${when}, ${steps.length === 1 ? '1 step' : `${steps.length} steps`}, is`;
+  return isHeld ? `${sentence} open in another page.` : `${sentence} kept in this browser.`;
 };
 
 // From now on the draft of this page is another one, which it holds.

@@ -74,13 +74,13 @@ export const drawCurve = (picture, prices, track, at) => {
 const number = cost => cost.toLocaleString('en');
 
 // What a minute costs beside the best one, in words.
-export const priceText = (prices, minute, told) => {
+export const priceText = (prices, minute, condition) => {
   const price = prices.get(minute), least = leastCost(prices);
-  if (!price) return `${told}: not known yet`;
-  if (price.kind === 'infeasible') return `${told} there is no timetable`;
-  if (!hasCost(price)) return `${told} none is found yet; it would cost at least ${number(price.bound)}`;
+  if (!price) return `${condition}: not known yet`;
+  if (price.kind === 'infeasible') return `${condition} there is no timetable`;
+  if (!hasCost(price)) return `${condition} none is found yet; it would cost at least ${number(price.bound)}`;
   const more = BigInt(price.cost) - least, words = more ? `${number(more)} more` : `least: ${number(price.cost)}`;
-  return price.kind === 'optimum' ? `${told} the best costs ${words}` : `${told} the best that is found costs ${words}`;
+  return price.kind === 'optimum' ? `${condition} the best costs ${words}` : `${condition} the best that is found costs ${words}`;
 };
 
 // Which minutes are best, and which have none, as far as it is known.

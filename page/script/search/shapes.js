@@ -14,9 +14,9 @@ export const shapeOf = (members, network) => {
   const start = windows.size ? Math.min(...windows.keys()) : used[0].first, steps = walk(start, used);
   if (steps.length !== used.length) return null;
   const events = [start, ...steps.map(endOf)], end = events[events.length - 1], count = new Set(events).size;
-  if (!windows.size) return end === start && count === steps.length ? told(turned(steps), network.period, null) : null;
+  if (!windows.size) return end === start && count === steps.length ? shapeAlong(turned(steps), network.period, null) : null;
   if (!windows.has(end) || end === start || count !== events.length) return null;
-  return told(turned(steps), network.period, windows);
+  return shapeAlong(turned(steps), network.period, windows);
 };
 
 // The steps from an event on, as long as there is just one that was not gone; at the first event of a circle any.
@@ -39,7 +39,7 @@ const turned = steps => {
 };
 
 // A shape with the least and the most minutes along it, and those that it would have to take: the nearest below and above.
-const told = (steps, period, windows) => {
+const shapeAlong = (steps, period, windows) => {
   const least = leastOf(steps), most = -leastOf(backOf(steps)), start = startOf(steps[0]), end = endOf(steps[steps.length - 1]);
   let shortest = 0, width = 0;
   if (windows) {

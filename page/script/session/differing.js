@@ -16,16 +16,16 @@ const changesOf = (old, now) => [
 
 const activityChanges = (before, after) => both(before.activities.keys(), after.activities.keys()).map(number => {
   const [old, now] = [before, after].map(({ activities }) => activities.get(number));
-  const told = !old ? 'added' : !now ? 'dropped' : changesOf(old, now);
-  return told && { event: (now || old).first, text: `${activityName(now || old)}: ${told}` };
+  const change = !old ? 'added' : !now ? 'dropped' : changesOf(old, now);
+  return change && { event: (now || old).first, text: `${activityName(now || old)}: ${change}` };
 });
 
 const heldText = ({ windows, period }, event) => windows.has(event) ? `held ${windowText(windows.get(event), period)}` : 'not held';
 
 const eventChanges = (before, after) => both(before.events, after.events).map(event => {
   const [wasThere, isThere] = [before, after].map(({ known }) => known.has(event)), [old, now] = [before, after].map(each => heldText(each, event));
-  const told = !wasThere ? 'added' : !isThere ? 'dropped' : old === now ? '' : `${now}, was ${old}`;
-  return told && { event, text: `${eventName(event)}: ${told}` };
+  const change = !wasThere ? 'added' : !isThere ? 'dropped' : old === now ? '' : `${now}, was ${old}`;
+  return change && { event, text: `${eventName(event)}: ${change}` };
 });
 
 const networkChanges = (before, after) => {
