@@ -1,8 +1,8 @@
 // Starts the page: the program first, and then the first story, or says why it cannot start. A report is read before that.
 
 import { addingPanel } from './forms/adding.js';
-import { alwaysPanel, startAlways } from './search/always.js';
 import { startAltering } from './forms/altering.js';
+import { alwaysPanel, startAlways } from './search/always.js';
 import { startAsking } from './search/asking.js';
 import { axisPanel } from './forms/axis.js';
 import { boardsPanel, startBoards } from './draw/boards.js';

@@ -27,8 +27,8 @@ import {
   askSession, choose, doStep, goTo, journal, present, preview, redo, refresh, session, timesNow, titleOf, undo,
 } from './session/session.js';
 import { shown, within } from './session/shown.js';
-import { atOnce } from './draw/slices.js';
 import { sizeNow } from './session/sizes.js';
+import { atOnce } from './draw/slices.js';
 import { rangeShown } from './forms/spans.js';
 import { spread } from './draw/spreading.js';
 import { stories } from './files/stories.js';

@@ -2,6 +2,7 @@
 
 import { askFor } from './asking.js';
 import { conflictsOf } from '../session/conflicts.js';
+import { edit, windowEdit } from '../base/edits.js';
 import { element, find, lead } from '../base/elements.js';
 import { showRow } from '../forms/events.js';
 import { bestKnown } from './founds.js';
