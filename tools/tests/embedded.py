@@ -114,8 +114,9 @@ def embedded(suite: Suite) -> None:
 PERIODS = ["65546", "65535", "10x", "x10", "", " 10", "10 ", "-5", "0", "1", "2", "1440", "1441", "1e1", "10.0", "+10", "++10", "+", "0010", "9" * 30]
 
 
-def odd_runs(suite: Suite) -> Iterator[Tuple[str, List[str], Dict[str, Any]]]:
-    """Titles, and words PERIOD ACTIVITIES FIXED TIMES with what goes in and out, at which a caller is easily other than the program."""
+def odd_runs(suite: Suite, has_longest: bool) -> Iterator[Tuple[str, List[str], Dict[str, Any]]]:
+    """Titles, and words PERIOD ACTIVITIES FIXED TIMES with what goes in and out, at which a caller is easily other than the program.
+    Where it has the longest, those are files of 64 MiB too, which are read."""
     folder, two = str(suite.folder), str(suite.file("two", TWO))
     crossed, lines = str(suite.file("crossed", b"1; 1; 2; 5; 3; 2\n")), b"cost\n"
     for period in PERIODS:
@@ -125,9 +126,10 @@ def odd_runs(suite: Suite) -> Iterator[Tuple[str, List[str], Dict[str, Any]]]:
     for path, length in [(long, 67_108_865), (longest, 67_108_864)]:
         path.touch()
         os.truncate(path, length)
+    whole = [("file of 64 MiB", str(longest))] if has_longest else []
     for place in range(3):
         files = [two, "-", "-"] if place else ["-", "-", "-"]
-        for title, name in [("folder", folder), ("file that is not there", "none"), ("file of 64 MiB + 1", str(long)), ("file of 64 MiB", str(longest))]:
+        for title, name in [("folder", folder), ("file that is not there", "none"), ("file of 64 MiB + 1", str(long)), *whole]:
             yield f"a {title} in place {place}", ["10", *files[:place], name, *files[place + 1 :]], {"given": lines, "cwd": folder}
     yield "a folder after a fault of the activities", ["10", crossed, "-", folder], {"given": lines}
     yield "a fault of the activities before faulty times", ["10", crossed, "-", crossed], {"given": lines}
@@ -148,9 +150,9 @@ def words_to(suite: Suite, period: str, activities: str, fixed: str, times: str)
     return [suite.program, "--period", period, *options, *([] if activities == "-" else [activities])]
 
 
-def refusals(suite: Suite, languages: Mapping[str, Sequence[object]]) -> None:
+def refusals(suite: Suite, languages: Mapping[str, Sequence[object]], has_longest: bool = True) -> None:
     """A caller refuses what the program refuses, with its status and its line; the texts of refused words are their own."""
-    for title, words, how in odd_runs(suite):
+    for title, words, how in odd_runs(suite, has_longest):
         told = run(words_to(suite, *words), **how)
         wanted = {**told, "standard error": SOME if told["status"] == 2 else told["standard error"]}
         for language, caller in languages.items():

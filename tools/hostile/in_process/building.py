@@ -7,6 +7,7 @@ of a sanitizer, and gcc links them with its own. Under memcheck the library is t
 import os
 import re
 import shutil
+import subprocess
 from pathlib import Path
 from typing import Dict, List, NamedTuple, Optional, Sequence
 
@@ -34,7 +35,7 @@ class Way(NamedTuple):
     threads: int
 
 
-MEMCHECK = ["valgrind", "--quiet", "--error-exitcode=99", "--leak-check=full", "--show-leak-kinds=all", "--errors-for-leak-kinds=all"]
+MEMCHECK = ["valgrind", "--quiet", "--error-exitcode=99", "--exit-on-first-error=yes", "--leak-check=full", "--show-leak-kinds=all", "--errors-for-leak-kinds=all"]
 WAYS: Dict[str, Way] = {
     "sanitizers": Way(["-fsanitize=address,undefined", "-fno-sanitize-recover=undefined"], "address", "sanitize_address", b"__asan_report_load", [], 1),
     "threads": Way(["-fsanitize=thread"], "thread", "sanitize_thread", b"__tsan_read", [], 2),
@@ -45,15 +46,22 @@ SETTINGS = {"ASAN_OPTIONS": "exitcode=98:detect_stack_use_after_return=1", "TSAN
 
 
 class Caller(NamedTuple):
-    """How the caller is started, and in how many threads it calls."""
+    """How the caller is started, in how many threads it calls, and whether its library has prices."""
 
     words: List[object]
     env: Dict[str, str]
     threads: int
+    has_prices: bool
 
 
 def compiler() -> Optional[str]:
     return shutil.which("gcc") or shutil.which("cc")
+
+
+def runtime(name: str) -> str:
+    """The path of a library of the compiler, or its name alone where that is missing."""
+    words = [str(compiler()), f"-print-file-name={name}"]
+    return subprocess.run(words, capture_output=True, text=True, check=True).stdout.strip()
 
 
 # The attributes of functions by number, and a function that has none of these.
@@ -87,13 +95,19 @@ def library_for(folder: Path, name: str, given: Sequence[Path]) -> List[Path]:
     return [watched_library(folder, name, way)] if way.attribute else [MADE]
 
 
+def has_prices(library: Sequence[Path]) -> bool:
+    """Whether a library has pesp_price, which that of the page's module lacks."""
+    return any(b"pesp_price\0" in path.read_bytes() for path in library)
+
+
 def made_caller(folder: Path, name: str, library: Sequence[Path], more: Sequence[object] = (), title: str = "caller") -> Caller:
     """The caller over a library, with more words for the compiler."""
-    way, cc = WAYS[name], compiler()
+    way, cc, prices = WAYS[name], compiler(), has_prices(library)
     program, heap = folder / f"{title}-{name}", folder / f"heap-{name}.o"
     names = folder / "watched.h"
     names.write_text(WATCHED_NAMES)
     run([cc, *C_FLAGS, *way.flags, "-include", "stdlib.h", "-include", names, *WATCHED, "-c", HEADERS / "heap.c", "-o", heap])
     sources = [HERE / source for source in ("caller.c", "calls.c", "memory.c", "names.c")]
-    run([cc, *C_FLAGS, *way.flags, f"-I{HEADERS}", "-o", program, *sources, heap, *more, *library])
-    return Caller([*way.before, program], {**os.environ, **SETTINGS}, way.threads)
+    flags = [*C_FLAGS, *way.flags, *["-DWITHOUT_PRICES"] * (not prices)]
+    run([cc, *flags, f"-I{HEADERS}", "-o", program, *sources, heap, *more, *library])
+    return Caller([*way.before, program], {**os.environ, **SETTINGS}, way.threads, prices)

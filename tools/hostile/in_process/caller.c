@@ -2,7 +2,7 @@
  *
  * usage: caller SCRIPT ANSWERS [SCRIPT ANSWERS]
  *
- * An order is a line of ten words, KIND SLOT FIRST SECOND ROOM REFUSAL and four lengths, and the texts after it. KIND is a
+ * An order is a line of eleven words, KIND SLOT FIRST SECOND THIRD ROOM REFUSAL and four lengths, and the texts after it. KIND is a
  * call of calls.c, or `m`, which moves a session to another place in memory, or `x`, at which two threads exchange their
  * sessions. An answer is a line, KIND, told, the four numbers, how many bytes are shown, a fault or `-`; and the bytes. One
  * of a call that was refused memory has KIND in upper case, and the call is made again. The last line of standard output has
@@ -36,11 +36,11 @@ static void give_up(const char *why) {
 
 static bool read_order(FILE *script, struct order *order) {
     *order = (struct order){0};
-    int words = fscanf(script, " %c %u %" SCNu64 " %" SCNu64 " %zu %d %zu %zu %zu %zu", &order->kind, &order->slot, &order->first,
-                       &order->second, &order->room, &order->refusal, &order->lengths[0], &order->lengths[1], &order->lengths[2],
-                       &order->lengths[3]);
+    int words = fscanf(script, " %c %u %" SCNu64 " %" SCNu64 " %" SCNu64 " %zu %d %zu %zu %zu %zu", &order->kind, &order->slot,
+                       &order->first, &order->second, &order->third, &order->room, &order->refusal, &order->lengths[0],
+                       &order->lengths[1], &order->lengths[2], &order->lengths[3]);
     if (words == EOF) return false;
-    if (words != 10 || order->slot >= SLOTS || getc(script) != '\n') give_up("an order cannot be read");
+    if (words != 11 || order->slot >= SLOTS || getc(script) != '\n') give_up("an order cannot be read");
     for (int place = 0; place < 4; place += 1) {
         size_t length = order->lengths[place];
         order->texts[place] = block_of(length);

@@ -12,10 +12,10 @@
 /* What is ordered: `kind` is one of the letters that calls.c lists. */
 struct order {
     char kind;
-    unsigned slot;          /* the session */
-    uint64_t first, second; /* a period, an event and a time, or nodes */
-    size_t room;            /* how many bytes or numbers there is room for */
-    int refusal;            /* of enum refusal */
+    unsigned slot;                 /* the session */
+    uint64_t first, second, third; /* a period; an event, a time and nodes; or nodes */
+    size_t room;                   /* how many bytes or numbers there is room for */
+    int refusal;                   /* of enum refusal */
     size_t lengths[4];
     uint8_t *texts[4]; /* files, commands, a line: null where the length is 0 */
 };
@@ -26,7 +26,7 @@ enum refusal { NONE = 0, ALONE = 1, WITH_ALL_LATER_ONES = 2 };
 /* What came of a call. */
 struct answer {
     struct pesp_told told;
-    uint64_t numbers[4]; /* of a cost, a change or a search */
+    uint64_t numbers[4]; /* of a cost, a change, a search or a price */
     uint8_t *room;
     size_t bytes; /* how many the room has */
     size_t shown; /* how many of those the call has filled in */

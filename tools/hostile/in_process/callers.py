@@ -6,9 +6,9 @@ import shutil
 import subprocess
 import sys
 from pathlib import Path
-from typing import Dict, List, Sequence, Tuple
+from typing import Callable, Dict, List, Sequence, Tuple
 
-from hostile.in_process.building import C_FLAGS, HEADERS, WAYS, compiler
+from hostile.in_process.building import C_FLAGS, HEADERS, WAYS, compiler, runtime
 from paging.tree import NotMade, run
 from tests.embedded import asked_by, refusals
 from tests.examples import content, folders, words_of
@@ -16,6 +16,8 @@ from tests.harness import TOP, Suite
 from tests.harness import run as tried
 
 FLAGS = WAYS["sanitizers"].flags
+# The sanitizer's own library comes before all others.
+FIRST = "libasan.so"
 # rustc links no library but those that it is told.
 RUNTIMES = ["-lasan", "-lubsan"]
 # What a sanitizer finds has a status of its own.
@@ -29,25 +31,26 @@ NUMBERS: Dict[str, Tuple[List[object], bytes]] = {
 }
 
 
-def runtime() -> str:
-    """The sanitizer's own library, which comes before all others."""
-    return subprocess.run([str(compiler()), "-print-file-name=libasan.so"], capture_output=True, text=True, check=True).stdout.strip()
-
-
-def languages(folder: Path, library: Sequence[Path]) -> Dict[str, List[object]]:
-    """The commands that answer as the program does, by what they are written in."""
-    cc, heap, shared = compiler(), folder / "heap.o", folder / "libpespbench.so"
-    run([cc, *C_FLAGS, *FLAGS, "-fPIC", "-c", HEADERS / "heap.c", "-o", heap])
+def in_c(folder: Path, heap: Path, library: Sequence[Path]) -> List[object]:
     for name in ["answer", *NUMBERS]:
-        run([cc, *C_FLAGS, *FLAGS, "-o", folder / name, HEADERS / f"{name}.c", heap, *library])
-    found: Dict[str, List[object]] = {"C": [*WATCHED, folder / "answer"]}
-    run([cc, *FLAGS, "-shared", "-o", shared, heap, "-Wl,--whole-archive", *library, "-Wl,--no-whole-archive"])
-    found["Python"] = [*UNLEAKED, f"LD_PRELOAD={runtime()}", sys.executable, "-B", HEADERS / "answer.py", shared]
-    if shutil.which("rustc"):
-        links = [f"-Clink-arg={word}" for word in [heap, *library, *RUNTIMES]]
-        run(["rustc", "--edition=2021", "-O", "-o", folder / "in-rust", HEADERS / "answer.rs", *links])
-        found["Rust"] = [*WATCHED, f"LD_PRELOAD={runtime()}", folder / "in-rust"]
-    return found
+        run([compiler(), *C_FLAGS, *FLAGS, "-o", folder / name, HEADERS / f"{name}.c", heap, *library])
+    return [*WATCHED, folder / "answer"]
+
+
+def in_python(folder: Path, heap: Path, library: Sequence[Path]) -> List[object]:
+    shared = folder / "libpespbench.so"
+    run([compiler(), *FLAGS, "-shared", "-o", shared, heap, "-Wl,--whole-archive", *library, "-Wl,--no-whole-archive"])
+    return [*UNLEAKED, f"LD_PRELOAD={runtime(FIRST)}", sys.executable, "-B", HEADERS / "answer.py", shared]
+
+
+def in_rust(folder: Path, heap: Path, library: Sequence[Path]) -> List[object]:
+    links = [f"-Clink-arg={word}" for word in [heap, *library, *RUNTIMES]]
+    run(["rustc", "--edition=2021", "-O", "-o", folder / "in-rust", HEADERS / "answer.rs", *links])
+    return [*WATCHED, f"LD_PRELOAD={runtime(FIRST)}", folder / "in-rust"]
+
+
+# What makes the command that answers as the program does, by what that is written in.
+LANGUAGES: Dict[str, Callable[[Path, Path, Sequence[Path]], List[object]]] = {"Rust": in_rust, "Python": in_python, "C": in_c}
 
 
 def stories(suite: Suite, made: Dict[str, List[object]]) -> None:
@@ -71,7 +74,7 @@ def crate(suite: Suite, library: Sequence[Path]) -> None:
     run(["ar", "qc", archive / "libpespbench.a", suite.folder / "heap.o", *library])
     target = host()
     env = {"PESPBENCH_LIB": archive, "RUSTFLAGS": " ".join(f"-Clink-arg={word}" for word in RUNTIMES)}
-    env[f"CARGO_TARGET_{target.upper().replace('-', '_')}_RUNNER"] = " ".join([*WATCHED, f"LD_PRELOAD={runtime()}"])
+    env[f"CARGO_TARGET_{target.upper().replace('-', '_')}_RUNNER"] = " ".join([*WATCHED, f"LD_PRELOAD={runtime(FIRST)}"])
     words = ["env", *(f"{name}={value}" for name, value in env.items()), "cargo", "test", "--offline", "--quiet"]
     # A target that is named keeps the sanitizer from what builds the crate.
     came = tried([*words, "--target", target, "--target-dir", suite.folder / "target"], cwd=place, seconds=300)
@@ -83,20 +86,29 @@ def host() -> str:
     return told.split("host: ")[1].split()[0]
 
 
-def try_all(program: Path, folder: Path, library: Sequence[Path]) -> Tuple[int, List[str]]:
-    """How many cases passed, and what was wrong."""
-    suite, told = Suite(program, folder, folder / "tally"), io.StringIO()
+def numbers(suite: Suite) -> None:
+    for name, (words, wanted) in NUMBERS.items():
+        suite.note(name, {"status": 0, "standard output": wanted}, tried([*WATCHED, suite.folder / name, *words]))
+
+
+def try_language(suite: Suite, language: str, library: Sequence[Path]) -> Tuple[int, List[str]]:
+    """How many cases of a caller passed, and what was wrong."""
+    told, heap = io.StringIO(), suite.folder / "heap.o"
     suite.tally.write_text("")
     try:
-        made = languages(folder, library)
+        run([compiler(), *C_FLAGS, *FLAGS, "-fPIC", "-c", HEADERS / "heap.c", "-o", heap])
+        if language == "Rust" and not shutil.which("rustc"):
+            return 0, []
+        made = {language: LANGUAGES[language](suite.folder, heap, library)}
     except NotMade as fault:
         return 0, [f"FAILED callers: {fault}"]
     with contextlib.redirect_stdout(told):
         stories(suite, made)
-        refusals(suite, made)
-        for name, (words, wanted) in NUMBERS.items():
-            suite.note(name, {"status": 0, "standard output": wanted}, tried([*WATCHED, folder / name, *words]))
-        if shutil.which("cargo") and "Rust" in made:
+        # Group embedded has the longest files that are read.
+        refusals(suite, made, has_longest=False)
+        if language == "C":
+            numbers(suite)
+        if language == "Rust" and shutil.which("cargo"):
             crate(suite, library)
     tally = suite.tally.read_text()
     return tally.count("p"), [told.getvalue()] * bool(tally.count("f"))

@@ -35,14 +35,26 @@ static void try_move(const struct order *order, struct pesp_session *session, st
     answer->numbers[0] = (uint64_t)change;
 }
 
+static void put_found(const struct pesp_found *found, struct answer *answer) {
+    answer->numbers[0] = found->cost;
+    answer->numbers[1] = found->lower_bound;
+    answer->numbers[2] = found->state;
+    answer->numbers[3] = found->goes_on;
+}
+
 static void search(const struct order *order, struct pesp_session *session, struct answer *answer) {
     struct pesp_found found = {NUMBER_BEFORE, NUMBER_BEFORE, NUMBER_BEFORE, NUMBER_BEFORE};
     pesp_search(session, order->first, (uint16_t *)(void *)answer->room, order->room, &found, &answer->told);
-    answer->numbers[0] = found.cost;
-    answer->numbers[1] = found.lower_bound;
-    answer->numbers[2] = found.state;
-    answer->numbers[3] = found.goes_on;
+    put_found(&found, answer);
 }
+
+#ifndef WITHOUT_PRICES
+static void price(const struct order *order, struct pesp_session *session, struct answer *answer) {
+    struct pesp_found found = {NUMBER_BEFORE, NUMBER_BEFORE, NUMBER_BEFORE, NUMBER_BEFORE};
+    pesp_price(session, (uint32_t)order->first, (uint16_t)order->second, order->third, &found, &answer->told);
+    put_found(&found, answer);
+}
+#endif
 
 static void dispatch(const struct order *order, struct pesp_session *session, struct answer *answer) {
     uint8_t *room = answer->room;
@@ -56,6 +68,9 @@ static void dispatch(const struct order *order, struct pesp_session *session, st
     case 't': pesp_times(session, (uint16_t *)(void *)room, order->room, &answer->told); break;
     case 'd': pesp_domain(session, (uint32_t)order->first, room, order->room, &answer->told); break;
     case 's': search(order, session, answer); break;
+#ifndef WITHOUT_PRICES
+    case 'p': price(order, session, answer); break;
+#endif
     case 'w': answer_run(order, answer); break;
     default: fprintf(stderr, "caller: no call %c\n", order->kind), exit(3);
     }

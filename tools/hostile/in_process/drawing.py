@@ -36,13 +36,20 @@ class Stream(NamedTuple):
         return any(self.files)
 
 
+class Kind(NamedTuple):
+    """Whether a stream has prices, and whether it has every call, and is refused memory."""
+
+    has_prices: bool
+    is_whole: bool
+
+
 class Drawing:
     """Draws the calls of one stream."""
 
-    def __init__(self, draw: random.Random, period: int, slot: int, files: Sequence[bytes]) -> None:
-        self.draw, self.period, self.slot, self.files = draw, period, slot, files
+    def __init__(self, draw: random.Random, period: int, slot: int, files: Sequence[bytes], kind: Kind) -> None:
+        self.draw, self.period, self.slot, self.files, self.kind = draw, period, slot, files, kind
         # A search of some thousand requests takes too long to be made again for each.
-        self.is_refusing = draw.randrange(4) == 0 and len(files[0]) < LARGE
+        self.is_refusing = (kind.is_whole or draw.randrange(4) == 0) and len(files[0]) < LARGE
         self.has_searches = period in SHORT
 
     def refusal(self) -> int:
@@ -53,6 +60,9 @@ class Drawing:
 
     def event(self) -> int:
         return self.draw.randint(1, 4) if self.draw.randrange(8) else self.draw.choice([0, 9, GREATEST_EVENT, GREATEST_EVENT + 1, GREATEST_NUMBER])
+
+    def time(self) -> int:
+        return self.draw.randrange(self.period) if self.draw.randrange(8) else self.draw.choice([self.period, 65_535])
 
     def order(self, kind: str, **how: Any) -> Order:
         return Order(kind, self.slot, **how)
@@ -73,8 +83,7 @@ class Drawing:
         return [self.order(orders.EVENTS, room=100), self.order(orders.TIMES, room=100)]
 
     def moves(self) -> List[Order]:
-        time = self.draw.randrange(self.period) if self.draw.randrange(8) else self.draw.choice([self.period, 65_535])
-        return [*self.timetable(), self.order(orders.MOVE, first=self.event(), second=time)]
+        return [*self.timetable(), self.order(orders.MOVE, first=self.event(), second=self.time())]
 
     def search(self) -> List[Order]:
         """A search, and then the network that it was over."""
@@ -84,6 +93,15 @@ class Drawing:
         # What was found is told again, in whole.
         again = [self.order(orders.SEARCH, first=0, room=100)] if self.draw.randrange(3) == 0 else []
         return [search, *again, self.dump()]
+
+    def price(self) -> List[Order]:
+        """The price of an event at a time, perhaps asked for again, and then the network that it is of."""
+        if not (self.kind.has_prices and self.has_searches):
+            return []
+        event, time = self.event(), self.time()
+        nodes = [self.draw.choice(NODES) for _ in range(self.draw.choice([1, 1, 2, 3]))]
+        prices = [self.order(orders.PRICE, first=event, second=time, third=each, refusal=self.refusal()) for each in nodes]
+        return [*prices, self.dump()]
 
     def more(self) -> List[Order]:
         """What is asked beside lines."""
@@ -95,18 +113,24 @@ class Drawing:
             self.moves,
             self.search,
             self.search,
+            self.price,
             lambda: [self.order(orders.MOVE_SESSION)],
             lambda: [self.opening(self.period)],
             lambda: self.line(self.draw.choice(HOSTILE)),
         ]
         return self.draw.choice(turns)() if self.draw.randrange(2) else []
 
+    def each_call(self) -> List[Order]:
+        """Every call on a session that is not a line."""
+        domain = self.order(orders.DOMAIN, first=self.event(), room=180)
+        return [self.order(orders.COST), *self.moves(), domain, *self.search(), *self.price(), self.dump()]
+
     def opening(self, period: int) -> Order:
         return Order(orders.OPEN, self.slot, first=period, refusal=self.refusal(), texts=tuple(self.files))
 
     def unopened(self) -> List[Order]:
         """Uses of a session that is closed, and openings at a period that there is not."""
-        kinds = [orders.COST, orders.MOVE, orders.EVENTS, orders.TIMES, orders.DOMAIN, orders.SEARCH]
+        kinds = [orders.COST, orders.MOVE, orders.EVENTS, orders.TIMES, orders.DOMAIN, orders.SEARCH, *[orders.PRICE] * self.kind.has_prices]
         drawn = [self.order(self.draw.choice(kinds), first=1, room=3) for _ in range(self.draw.randrange(3))]
         drawn += [self.order(kind) for kind in (orders.CLOSE, orders.MOVE_SESSION) if self.draw.randrange(3) == 0]
         bad = self.opening(self.draw.choice([0, 1, 1_441, 65_535]))
@@ -119,8 +143,8 @@ class Drawing:
         for line in lines:
             yield from self.line(line)
             yield from self.more()
-        yield self.dump()
-        if self.draw.randrange(40) == 0 or any(self.files):
+        yield from self.each_call() if self.kind.is_whole else [self.dump()]
+        if self.kind.is_whole or self.draw.randrange(40) == 0 or any(self.files):
             commands = b"\n".join(lines) + self.draw.choice([b"", b"\n", b"\n" + b"x" * 4_097])
             yield Order(orders.RUN, self.slot, first=self.period, room=self.room(), refusal=self.refusal(), texts=(*self.files, commands))
         yield self.order(orders.CLOSE)
@@ -136,18 +160,18 @@ def each_with_each(draw: random.Random, period: int) -> bytes:
     return rows_of(rows)
 
 
-def drawn_stream(draw: random.Random, period: int, slot: int) -> Stream:
-    """A stream at a period. One in 25 is opened of files at a period of its own, and one in 50 of a network that is harder to search;
-    one in four is refused memory."""
+def drawn_stream(draw: random.Random, period: int, slot: int, kind: Kind) -> Stream:
+    """A stream at a period. One in 25 is opened of files at a period of its own, and one in ten of a network that is harder to search;
+    one in four is refused memory. One that has every call is opened without files."""
     files: Sequence[bytes] = [b"", b"", b""]
     lines = drawn_lines(draw, period, LINES)
-    if draw.randrange(25) == 0:
+    if draw.randrange(25) == 0 and not kind.is_whole:
         asked = drawn_run(draw)
         period, files, lines = asked.period, asked[1:4], asked.commands.split(b"\n")[:LINES]
-    elif draw.randrange(50) == 0:
+    elif draw.randrange(10) == 0 and not kind.is_whole:
         files = [each_with_each(draw, period), b"", b""]
     lines = [line for line in lines if period in SHORT or not searches(line)]
-    return Stream(period, files, list(Drawing(draw, period, slot, files).calls(lines)))
+    return Stream(period, files, list(Drawing(draw, period, slot, files, kind).calls(lines)))
 
 
 def merged(draw: random.Random, streams: Sequence[Stream]) -> List[Order]:

@@ -17,4 +17,9 @@ WRONG: Dict[int, Tuple[str, str, str]] = {
     11: ("a timetable has another cost", "sanitizers", "the program tells|the optimum is|and now"),
     12: ("a time is lost", "sanitizers", "wanted"),
     13: ("the library's own code reads a byte after the line", "sanitizers memcheck", "heap-buffer-overflow|Invalid read"),
+    14: ("a price is another one", "sanitizers", "the optimum is"),
+    15: ("a price leaves its event at the time", "sanitizers", "wanted|the optimum is"),
+    16: ("a price that is refused memory leaves its event at the time", "sanitizers", "has changed the session"),
 }
+# Not of a library without prices.
+OF_PRICES = [14, 15, 16]

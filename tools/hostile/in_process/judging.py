@@ -1,41 +1,17 @@
 """What calls on a session answered, beside the program's replies to lines that ask the same."""
 
 from types import ModuleType
-from typing import Callable, Dict, List, NamedTuple, Optional, Sequence, Tuple
+from typing import Dict, List, Optional, Tuple
 
 from hostile.in_process import orders
 from hostile.in_process.drawing import GREATEST_EVENT, Stream
-from hostile.in_process.orders import NUMBER_BEFORE, Answer, Call, Order, Told
+from hostile.in_process.orders import Call
+from hostile.in_process.priced import Prices, searched_by_price
 from hostile.in_process.refused import fault_of_refused
 from hostile.in_process.searched import BEST_SO_FAR, NO_TIMETABLE, NOTHING_YET, OPTIMUM, Searched, numbers_in, searched_by_try, times_in
+from hostile.in_process.wanted import UNTOLD, Check, Judge, as_bytes, before_of, ended, is_wanted
 from tests.parsing import EDITS, LONGEST_LINE, Fault, parse
 from tests.sessions import NO_TIME, domain_in
-
-# What judges a call by the program's replies: a fault, or None.
-Judge = Callable[[List[bytes]], Optional[str]]
-# What an answer is to have: what is told, the bytes of which a first part is shown, and the numbers.
-Wanted = Tuple[Told, bytes, Tuple[int, ...]]
-UNTOLD = (0, 0, 0, 0)
-
-
-class Check(NamedTuple):
-    """Lines that are given to the program, and what judges a call by its replies to them."""
-
-    lines: List[bytes]
-    judge: Judge
-
-
-def ended(status: int, length: int = 0, place: int = 0, reason: int = 0) -> Told:
-    return (length, place, status, reason, 0)
-
-
-def shown_is(answer: Answer, width: int, whole: bytes, room: int) -> bool:
-    """Whether a first part of all bytes is shown, as many as there is room for."""
-    return answer.shown == whole[: room * width]
-
-
-def as_bytes(numbers: Sequence[int], width: int) -> bytes:
-    return b"".join(number.to_bytes(width, "little") for number in numbers)
 
 
 def command_in(line: bytes) -> Tuple[str, List[int]]:
@@ -59,9 +35,10 @@ class Judged:
         self.told_times: List[int] = []
         # Whether the times are known that a session began with, which the files have.
         self.has_times = not stream.has_files()
-        # Searches and tries whose network is told next, and the cost and the bound of the search that goes on.
+        # Searches, prices and tries whose network is told next, and the cost and the bound of the search that goes on.
         self.untold: List[Call] = []
         self.before: Optional[Tuple[Optional[int], int]] = None
+        self.prices = Prices(stream.period)
         # Of the program's own opening of the files.
         self.opening_fault = ""
         self.script = b""
@@ -91,7 +68,7 @@ class Judged:
             return [], lambda _: is_wanted(call, (ended(orders.CLOSED), b"", before_of(order)))
         kinds = {
             orders.ASK: self.asking, orders.COST: self.cost, orders.MOVE: self.move, orders.EVENTS: self.event_list,
-            orders.TIMES: self.time_list, orders.DOMAIN: self.domain, orders.SEARCH: self.search,
+            orders.TIMES: self.time_list, orders.DOMAIN: self.domain, orders.SEARCH: self.search, orders.PRICE: self.price,
         }
         return kinds[order.kind](call)
 
@@ -117,6 +94,7 @@ class Judged:
             self.note_searched()
         if name in EDITS and call.last.told[0] == len(b"ok\n"):
             self.before = None
+            self.prices.forget()
         if name == "try":
             self.untold.append(call)
             return [line], lambda replies: fault_of_try(call, replies[0])
@@ -244,12 +222,21 @@ class Judged:
         is_dearer = before[0] is not None and (not has_times or cost > before[0])
         return f"a timetable of cost {before[0]} before, and now {cost}" if is_dearer else None
 
+    def price(self, call: Call) -> Tuple[List[bytes], Judge]:
+        if call.last.status() == orders.DONE:
+            self.untold.append(call)
+        check = self.prices.check_of(call)
+        return check.lines, check.judge
+
     def note_searched(self) -> None:
         """What searches told that may tell more than one thing, with the network that they were over; a timetable where all of it is shown."""
         events = [int(line.split()[2]) for line in self.script.splitlines() if line.startswith(b"add event")]
         for call in self.untold:
             if call.order.kind == orders.ASK:
                 self.searched.append(searched_by_try(self.script, call.last.shown))
+                continue
+            if call.order.kind == orders.PRICE:
+                self.searched.append(searched_by_price(self.script, call))
                 continue
             cost, bound, state, _ = call.last.numbers
             times = numbers_in(call.last.shown, 2)
@@ -264,20 +251,3 @@ def fault_of_try(call: Call, reply: bytes) -> Optional[str]:
         return None
     is_reply = call.last.shown.startswith((b"stopped", b"optimum", b"infeasible")) and call.last.told == ended(orders.DONE, len(call.last.shown))
     return None if is_reply else f"wanted {reply!r} or another one of a search"
-
-
-def before_of(order: Order) -> Tuple[int, ...]:
-    """The numbers of a call that does nothing."""
-    counts = {orders.COST: 1, orders.MOVE: 1, orders.SEARCH: 4}
-    count = counts.get(order.kind, 0)
-    return (NUMBER_BEFORE,) * count + (0,) * (4 - count)
-
-
-def is_wanted(call: Call, wanted: Wanted, width: int = 1) -> Optional[str]:
-    """What an answer has other than what is wanted."""
-    told, whole, numbers = wanted
-    if call.last.told != told:
-        return f"wanted {told}"
-    if call.last.numbers != numbers:
-        return f"wanted the numbers {numbers}"
-    return None if shown_is(call.last, width, whole, call.order.room) else f"wanted {whole[:200]!r}"

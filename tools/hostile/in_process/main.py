@@ -9,24 +9,25 @@ import tempfile
 from pathlib import Path
 from typing import Collection, Dict, List, Optional, Sequence
 
-from hostile.in_process.building import compiler
+from hostile.in_process.building import compiler, runtime
 from hostile.in_process.parts import PARTS, WANTED, Making, Result, Task, described, tasks
 from hostile.in_process.playing import Counts
 from paging.tree import NotMade
 from tests.harness import PROGRAM
 
-STREAMS = 400
+# They take a minute on two processors.
+STREAMS = 200
 
 
 def run_task(making: Making, task: Task) -> Result:
     return PARTS[task.part](making, task)
 
 
-def untried(parts: Sequence[str]) -> Dict[str, str]:
+def untried() -> Dict[str, str]:
     """The parts that cannot be tried here, each with what is not there."""
     if compiler() is None:
-        return {part: "no C compiler (gcc)" for part in parts}
-    return {part: WANTED[part][1] for part in parts if part in WANTED and not shutil.which(WANTED[part][0])}
+        return {part: "no C compiler (gcc)" for part in PARTS}
+    return {part: why for part, (name, why) in WANTED.items() if not (shutil.which(name) or os.path.isabs(runtime(name)))}
 
 
 def made(making: Making, parts: Sequence[str], missing: Collection[str]) -> List[str]:
@@ -42,7 +43,7 @@ def made(making: Making, parts: Sequence[str], missing: Collection[str]) -> List
 
 def run_all(words: argparse.Namespace, folder: Path) -> bool:
     chosen = [part for part in PARTS if not words.only or part in words.only]
-    missing, making = untried(chosen), Making(words, folder)
+    missing, making = untried(), Making(words, folder)
     parts = [part for part in chosen if part not in missing]
     faults = made(making, parts, missing)
     print("".join(f"{fault}\n" for fault in faults), end="", flush=True)
@@ -57,8 +58,12 @@ def run_all(words: argparse.Namespace, folder: Path) -> bool:
             passed, failed = passed + result.passed, failed + len(result.faults)
     for part, counts in totals.items():
         print(f"{part}: {counts.told()}" if counts.calls else f"{part}: done")
-    for part, why in missing.items():
-        print(f"tools/test_library: {part} was not tried: {why}")
+    for part in [part for part in chosen if part in missing]:
+        print(f"tools/test_library: {part} was not tried: {missing[part]}")
+    if "callers" in parts and not shutil.which("rustc"):
+        print("tools/test_library: the caller in Rust was not tried: no rustc")
+    if not making.have_prices():
+        print("tools/test_library: pesp_price was not tried: the library does not have it")
     print(f"{passed} passed, {failed} failed")
     return failed > 0
 

@@ -4,7 +4,7 @@ import re
 from typing import Iterator, List, NamedTuple, Tuple
 
 # The letters of calls.c, and of caller.c's own orders.
-OPEN, CLOSE, ASK, COST, MOVE, EVENTS, TIMES, DOMAIN, SEARCH, RUN = "o", "c", "a", "k", "v", "e", "t", "d", "s", "w"
+OPEN, CLOSE, ASK, COST, MOVE, EVENTS, TIMES, DOMAIN, SEARCH, PRICE, RUN = "o", "c", "a", "k", "v", "e", "t", "d", "s", "p", "w"
 MOVE_SESSION, EXCHANGE = "m", "x"
 WITHOUT_ANSWER = [MOVE_SESSION, EXCHANGE]
 # How requests for memory are refused: not at all, alone, and with all later ones.
@@ -24,13 +24,14 @@ class Order(NamedTuple):
     slot: int = 0
     first: int = 0
     second: int = 0
+    third: int = 0
     room: int = 0
     refusal: int = NONE
     texts: Tuple[bytes, ...] = ()
 
     def packed(self) -> bytes:
         lengths = [len(text) for text in self.texts] + [0] * (4 - len(self.texts))
-        words = [self.kind, self.slot, self.first, self.second, self.room, self.refusal, *lengths]
+        words = [self.kind, self.slot, self.first, self.second, self.third, self.room, self.refusal, *lengths]
         return " ".join(map(str, words)).encode() + b"\n" + b"".join(self.texts)
 
 

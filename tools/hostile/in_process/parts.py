@@ -9,18 +9,19 @@ from pathlib import Path
 from typing import Callable, Collection, Dict, Iterator, List, NamedTuple, Sequence, Tuple
 
 from hostile.in_process import callers
-from hostile.in_process.building import HERE, MEMCHECK, WAYS, Caller, library_for, made_caller
-from hostile.in_process.judged import WRONG
+from hostile.in_process.building import HERE, MEMCHECK, WAYS, Caller, has_prices, library_for, made_caller
+from hostile.in_process.judged import OF_PRICES, WRONG
 from hostile.in_process.playing import Counts, Player
 from tests.embedded import answering
+from tests.harness import Suite
 
 # So many streams of a thread are played by one start of the caller.
 STREAMS_AT_ONCE = 100
 # Of so many streams one is played so: memcheck is some thirty times as slow as a sanitizer, and threads play two at once.
 ONE_OF = {"sanitizers": 1, "threads": 5, "memcheck": 25}
 # Streams in which a library has to be found wrong.
-TRIALS, STREAMS_OF_A_TRIAL = 6, 8
-WRAPPED = [f"-Wl,--wrap={name}" for name in ("pesp_ask", "pesp_search")]
+TRIALS, STREAMS_OF_A_TRIAL = 20, 8
+WRAPPED = [f"-Wl,--wrap={name}" for name in ("pesp_ask", "pesp_search", "pesp_price")]
 
 
 class Task(NamedTuple):
@@ -55,6 +56,9 @@ class Making:
             made = threads.map(lambda way: library_for(self.folder, way, self.words.library), ways)
             self.libraries = dict(zip(ways, made))
 
+    def have_prices(self) -> bool:
+        return all(map(has_prices, self.libraries.values()))
+
     def make_callers(self, part: str) -> None:
         """Makes what a part needs beside the library."""
         for way in set(ways_of(part)) & set(self.libraries):
@@ -70,9 +74,9 @@ def ways_of(part: str) -> List[str]:
 
 
 def tasks(part: str, streams: int) -> Iterator[Task]:
-    """What a part has to do, each in a process."""
+    """What a part has to do, each in a process; the longest come first."""
     if part not in WAYS:
-        yield from (Task(part, number, 0) for number in (WRONG if part == "judges" else [0]))
+        yield from (Task(part, number, 0) for number in (WRONG if part == "judges" else range(len(callers.LANGUAGES))))
         return
     left = -(-streams // (ONE_OF[part] * WAYS[part].threads))
     at_once = min(STREAMS_AT_ONCE, -(-left // 4))
@@ -85,15 +89,15 @@ def play(making: Making, task: Task) -> Result:
     draw = random.Random(f"{making.words.seed} {task.part} {task.number}")
     with tempfile.TemporaryDirectory() as name:
         player = Player(making.words.program, making.callers[task.part], answering(), Path(name))
-        counts, faults = player.play(draw, task.streams)
+        counts, faults = player.play(draw, task.streams, task.number == 0)
     return Result(counts, 1 - bool(faults), [f"FAILED {task.part} {task.number} of seed {making.words.seed}: {fault}" for fault in faults[:5]])
 
 
 def judges(making: Making, task: Task) -> Result:
     """A library that goes wrong is found by each way that can find it, and by what it says."""
     title, ways, word = WRONG[task.number]
-    missed = [way for way in ways.split() if way in making.wrong and not is_found(making, making.wrong[way], task.number, word)]
-    tried = [way for way in ways.split() if way in making.wrong]
+    tried = [way for way in ways.split() if way in making.wrong and (making.wrong[way].has_prices or task.number not in OF_PRICES)]
+    missed = [way for way in tried if not is_found(making, making.wrong[way], task.number, word)]
     return Result(Counts(), len(tried) - len(missed), [f"FAILED judges: {title}, and {way} does not find it" for way in missed])
 
 
@@ -109,15 +113,19 @@ def is_found(making: Making, caller: Caller, number: int, word: str) -> bool:
 
 
 def call(making: Making, task: Task) -> Result:
-    """The callers of embedded/, over the library whose code the sanitizers watch."""
+    """A caller of embedded/, over the library whose code the sanitizers watch."""
     with tempfile.TemporaryDirectory() as name:
-        passed, faults = callers.try_all(making.words.program, Path(name), making.libraries["sanitizers"])
+        suite = Suite(making.words.program, Path(name), Path(name) / "tally")
+        passed, faults = callers.try_language(suite, list(callers.LANGUAGES)[task.number], making.libraries["sanitizers"])
     return Result(Counts(), passed, faults)
 
 
-PARTS: Dict[str, Callable[[Making, Task], Result]] = {"judges": judges, "callers": call, **{way: play for way in WAYS}}
-# A command that a part cannot do without.
-WANTED: Dict[str, Tuple[str, str]] = {"memcheck": (MEMCHECK[0], "no memcheck (valgrind)")}
+PARTS: Dict[str, Callable[[Making, Task], Result]] = {"callers": call, "judges": judges, **{way: play for way in WAYS}}
+ADDRESSES, RACES = ("libasan.so", "no AddressSanitizer (libasan, of gcc)"), ("libtsan.so", "no ThreadSanitizer (libtsan, of gcc)")
+# A command or a library of the compiler that a part cannot do without.
+WANTED: Dict[str, Tuple[str, str]] = {
+    "sanitizers": ADDRESSES, "callers": ADDRESSES, "threads": RACES, "memcheck": (MEMCHECK[0], "no memcheck (valgrind)"),
+}
 
 
 def described(task: Task, result: Result) -> str:

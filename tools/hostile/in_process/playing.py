@@ -7,10 +7,11 @@ from typing import Iterator, List, NamedTuple, Sequence, Tuple
 
 from hostile.in_process import orders
 from hostile.in_process.building import Caller
-from hostile.in_process.drawing import LONG, SHORT, SLOTS, Stream, drawn_stream, merged
-from hostile.in_process.judging import Check, Judged
+from hostile.in_process.drawing import LONG, SHORT, SLOTS, Kind, Stream, drawn_stream, merged
+from hostile.in_process.judging import Judged
 from hostile.in_process.orders import Call, Order, calls_of
 from hostile.in_process.searched import emptying, fault_of_search, lines_of_search
+from hostile.in_process.wanted import Check
 from hostile.inputs import ends_of_replies
 from tests.harness import NAMES, Came, run
 
@@ -47,9 +48,12 @@ def period_drawn(draw: random.Random) -> int:
     return draw.choice(SHORT) if draw.randrange(SHORT_TO_LONG) else draw.choice(LONG)
 
 
-def drawn_script(draw: random.Random, period: int, count: int) -> Script:
-    """So many streams, some at once and then others, each of a slot of its own."""
-    together = [[drawn_stream(draw, period, slot) for slot in range(min(SLOTS, count - first))] for first in range(0, count, SLOTS)]
+def drawn_script(draw: random.Random, period: int, count: int, kind: Kind) -> Script:
+    """So many streams, some at once and then others, each of a slot of its own; a kind that has every call is that of the first."""
+    together = [
+        [drawn_stream(draw, period, slot, kind if first + slot == 0 else kind._replace(is_whole=False)) for slot in range(min(SLOTS, count - first))]
+        for first in range(0, count, SLOTS)
+    ]
     return Script(together, [order for streams in together for order in merged(draw, streams)])
 
 
@@ -87,10 +91,12 @@ class Player:
     def __init__(self, program: Path, caller: Caller, module: ModuleType, folder: Path) -> None:
         self.program, self.caller, self.module, self.folder = program, caller, module, folder
 
-    def play(self, draw: random.Random, count: int) -> Tuple[Counts, List[str]]:
-        """Plays so many streams of a period in each thread: how much that was, and the faults."""
-        period = period_drawn(draw)
-        scripts = [drawn_script(draw, period, count) for _ in range(self.caller.threads)]
+    def play(self, draw: random.Random, count: int, is_whole: bool = False) -> Tuple[Counts, List[str]]:
+        """Plays so many streams of a period in each thread, with every call if it is whole: how much that was, and the faults."""
+        # At a long period none is asked for a search.
+        period = draw.choice(SHORT) if is_whole else period_drawn(draw)
+        kind = Kind(self.caller.has_prices, is_whole)
+        scripts = [drawn_script(draw, period, count, kind) for _ in range(self.caller.threads)]
         if self.caller.threads > 1 and draw.randrange(2):
             scripts = [with_exchanges(draw, scripts[0])] * self.caller.threads
         came, outputs = carried_out(self.caller, self.folder, scripts)

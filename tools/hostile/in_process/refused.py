@@ -8,6 +8,8 @@ from hostile.in_process.orders import NUMBER_BEFORE, Answer, Call
 from hostile.inputs import ends_of_replies
 
 NOTHING = (0, 0, orders.MEMORY, 0, 0)
+# Calls that tell four numbers.
+SEARCHES = [orders.SEARCH, orders.PRICE]
 
 
 def fault_of_refused(call: Call) -> Optional[str]:
@@ -26,7 +28,7 @@ def fault_of_one(call: Call, answer: Answer) -> Optional[str]:
     if call.order.kind == orders.OPEN and answer.told[2] in (1, 2, 3):
         is_right = answer.told[3:] == (orders.NO_MEMORY_TO_READ, 0) and answer.told[0] == 0 and answer.told[1] > 0
         return None if is_right else "no fault of a file for want of memory"
-    numbers = (NUMBER_BEFORE,) * 4 if call.order.kind == orders.SEARCH else (0, 0, 0, 0)
+    numbers = (NUMBER_BEFORE,) * 4 if call.order.kind in SEARCHES else (0, 0, 0, 0)
     is_right = answer.told == NOTHING and answer.shown == b"" and answer.numbers == numbers
     return None if is_right else "neither want of memory nor what it answers without a refusal"
 

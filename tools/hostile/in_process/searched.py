@@ -7,13 +7,15 @@ NOTHING_YET, BEST_SO_FAR, OPTIMUM, NO_TIMETABLE = range(4)
 
 
 class Searched(NamedTuple):
-    """What a search told: its network as a script, its timetable if any, its cost, its lower bound, and a whole reply that is the optimum's."""
+    """What a search told: its network as a script, its timetable if any, its cost, its lower bound, a whole reply that is the optimum's,
+    and its state where it is a price, which has no timetable."""
 
     script: bytes
     times: Dict[int, int]
     cost: int
     bound: int
     optimum: bytes = b""
+    state: Optional[int] = None
 
 
 def numbers_in(shown: bytes, width: int) -> List[int]:
@@ -48,6 +50,8 @@ def lines_of_search(searched: Searched) -> List[bytes]:
 
 def fault_of_search(searched: Searched, violations: bytes, cost: bytes, optimum: bytes) -> Optional[str]:
     """A timetable meets everything at its cost, and no optimum is below the bound, or dearer."""
+    if searched.state is not None:
+        return None if is_price(searched, optimum) else f"{searched}, and the optimum is {optimum!r}"
     if searched.optimum:
         return None if searched.optimum == optimum else f"{searched}, and the optimum is {optimum!r}"
     if searched.times and (violations, cost) != (b"violations 0\n", b"cost %d\n" % searched.cost):
@@ -56,3 +60,15 @@ def fault_of_search(searched: Searched, violations: bytes, cost: bytes, optimum:
     is_bound = words[0] == b"infeasible" or searched.bound <= int(words[1])
     is_bound = is_bound and not (searched.times and (words[0] == b"infeasible" or int(words[1]) > searched.cost))
     return None if is_bound else f"{searched}, and the optimum is {optimum!r}"
+
+
+def is_price(priced: Searched, optimum: bytes) -> bool:
+    """Whether a price may tell this where that is the optimum of its network."""
+    words = optimum.split()
+    least = None if words[0] == b"infeasible" else int(words[1])
+    is_below = least is None or priced.bound <= least
+    if priced.state == NOTHING_YET:
+        return priced.cost == 0 and is_below
+    if priced.state == BEST_SO_FAR:
+        return least is not None and is_below and least <= priced.cost
+    return (priced.state, priced.cost, priced.bound) == ((NO_TIMETABLE, 0, 0) if least is None else (OPTIMUM, least, least))

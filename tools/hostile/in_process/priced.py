@@ -1,0 +1,63 @@
+"""What prices told: the refusals, and what the optimum of the network is in which the event has that time."""
+
+from typing import List, Optional, Tuple
+
+from hostile.in_process import orders
+from hostile.in_process.drawing import GREATEST_EVENT
+from hostile.in_process.orders import Call
+from hostile.in_process.searched import NO_TIMETABLE, OPTIMUM, Searched
+from hostile.in_process.wanted import Check, before_of, ended, is_wanted
+
+# An event at the time, and an activity of no length from there: the window of the priced event stays, as it does for a price.
+PRICED = b"add event %(more)d\nfix %(more)d %(time)d\nadd activity %(more)d %(more)d %(event)d 0 0 0\n"
+# No drawn network has an event or an activity of this number.
+MORE = 999_999_998
+
+
+def searched_by_price(script: bytes, call: Call) -> Searched:
+    cost, bound, state, _ = call.last.numbers
+    lines = PRICED % {b"more": MORE, b"time": call.order.second, b"event": call.order.first}
+    return Searched(script + lines, {}, cost, bound, state=state)
+
+
+class Prices:
+    """The prices of one session in turn."""
+
+    def __init__(self, period: int) -> None:
+        self.period = period
+        # The event and the time of the last one, and its lower bound, where the next one goes on with it.
+        self.last: Optional[Tuple[int, int]] = None
+        self.bound = 0
+
+    def forget(self) -> None:
+        """After an edit a price begins again."""
+        self.last = None
+
+    def check_of(self, call: Call) -> Check:
+        event, time = call.order.first, call.order.second
+        fault = self.fault_of_numbers(call) if call.last.status() == orders.DONE else None
+
+        def judge(replies: List[bytes]) -> Optional[str]:
+            if not replies or replies[0].startswith(b"refused"):
+                refusal = ended(orders.REFUSED, place=event, reason=2)
+            elif time >= self.period:
+                refusal = ended(orders.REFUSED, reason=4)
+            else:
+                return fault or (None if call.last.told == ended(orders.DONE) else f"wanted {ended(orders.DONE)}")
+            return is_wanted(call, (refusal, b"", before_of(call.order)))
+
+        return Check([b"domain %d" % event] if event <= GREATEST_EVENT else [], judge)
+
+    def fault_of_numbers(self, call: Call) -> Optional[str]:
+        """A price that ended does not go on, and one that goes on with the last one has no smaller lower bound."""
+        _, bound, state, goes_on = call.last.numbers
+        if goes_on > (state not in (OPTIMUM, NO_TIMETABLE)):
+            return "a price tells what it never does"
+        if call.order.third == 0 or state == NO_TIMETABLE:
+            return None
+        priced = (call.order.first, call.order.second)
+        # What was refused memory may have begun again.
+        is_less = self.last == priced and not call.refused and bound < self.bound
+        fault = f"a lower bound of {self.bound} before, and now {bound}" if is_less else None
+        self.last, self.bound = priced if goes_on else None, bound
+        return fault
