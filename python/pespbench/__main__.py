@@ -16,7 +16,7 @@ from pespbench.leaving import leave_at_interrupts, raise_interrupts
 from pespbench.terminal import complain, shown
 from pespbench.version import VERSION
 
-MODULES = ["shell", "asking", "search", "why", "helps", "report", "compare", "lintim", "gtfs", "models", "drawn"]
+MODULES = ["shell", "asking", "search", "mend", "why", "helps", "report", "compare", "lintim", "gtfs", "models", "drawn"]
 
 
 class Parser(argparse.ArgumentParser):

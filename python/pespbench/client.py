@@ -8,17 +8,16 @@ from operator import index
 from typing import Iterable, List, Mapping, Optional, Tuple, Union
 
 from pespbench import files
-from pespbench.answers import Answer, Stopped
+from pespbench.answers import Answer
 from pespbench.commands import checked
 from pespbench.curing import cured
 from pespbench.engines import Engine
-from pespbench.faults import Ended, Fault, Refused
+from pespbench.faults import Ended
 from pespbench.journal import journal_of
 from pespbench.labels import Labels
 from pespbench.patience import Patience
-from pespbench.searching import Search, Watcher, check_limits
-from pespbench.session import Cost, Outcome, Session
-from pespbench.tabled import Tabled
+from pespbench.questions import Questions, Taken
+from pespbench.session import Cost, Session
 from pespbench.tables import Given, network_of
 from pespbench.work import Work
 
@@ -27,7 +26,7 @@ Path = Union[str, "os.PathLike[str]"]
 PERIOD_COMMENT = re.compile("[ \t]*#[ \t]+period[ \t]+([0-9]{1,9})(?=[ \t\r]|$)")
 
 
-class Bench(Tabled):
+class Bench(Questions):
     """A network in a running program, or in the library in this process (`open`).
 
     There is a method for each command (Commands). Accepted changes are kept: if a search is killed (Ctrl-C, `search`), or the
@@ -210,6 +209,15 @@ class Bench(Tabled):
                 raise
             journal.join(mark)
 
+    def take(self, found: Taken) -> None:
+        """Makes the timetable that a search found the working timetable: a result of `search`, `optimum` or `near`, or a Price.
+
+        Raises ValueError if it has found none, and what `set_times` raises.
+        """
+        if found.cost is None or len(found.times) < len(self.network.windows):
+            raise ValueError("there is no timetable to take: the search found none, or returned its cost alone")
+        self.set_times(found.times)
+
     # The two that a local search asks most often: they go the shortest way where it ends well, and else as all others.
 
     def time(self, event: int, time: int) -> None:
@@ -228,17 +236,6 @@ class Bench(Tabled):
         """The answer to a command line: None for an edit. Raises ValueError for a line that has no reply."""
         return self._session.answer(checked(command))
 
-    def many(self, commands: Iterable[str]) -> List[Outcome]:
-        """The answers to command lines, which are written while replies are read.
-
-        A refusal or a fault is a value of the list here, and the other lines are still sent. Raises ValueError, before anything
-        is sent, for a line that has no reply, TypeError for one text instead of many, and Ended and BadReply; changes accepted
-        before that are kept.
-        """
-        if isinstance(commands, str):
-            raise TypeError("commands are many texts, and not one str")
-        return list(self._session.outcomes([checked(command) for command in commands]))
-
     def moves(self, moves: Iterable[Tuple[int, int]]) -> List[Cost]:
         """Sets times, each an event with its time, and returns the cost after each: like `time` and `cost` for each, but faster.
 
@@ -248,40 +245,7 @@ class Bench(Tabled):
         """
         return list(self._session.moves([(index(event), index(time)) for event, time in moves]))
 
-    def standing(self) -> Stopped:
-        """The working timetable with its cost if it meets everything; otherwise a cost of None, and no times."""
-        if len(self._session.work.times) < len(self.network.windows) or len(self.violations()):
-            return Stopped()
-        return Stopped(self.cost(), self.times)
-
-    def search(self, seconds: float, nodes: int = 1_000, watch: Optional[Watcher] = None, bounds: bool = False) -> Search:
-        """A search for the optimum with a time limit, which reports its progress: `for progress in bench.search(10.0)`.
-
-        It starts with the working timetable, if that meets everything; it runs in steps (see Search), with `nodes` nodes in the
-        first; and it ends when the optimum is known, or that there is no timetable (`found` of the last Progress is Infeasible,
-        as `optimum` returns it), or the time is over, or the caller stops. Only the library reports a lower bound on the way:
-        with `bounds`, the library beside a program searches instead of it, and NoLibrary is raised if there is none. At a gap of
-        0 the search continues until the first of the cheapest timetables is known.
-
-        `bench.search(10.0).found()` returns the result at the end. With the library another search of the same network resumes
-        from there (see Search). `watch` is also called with each Progress. Ctrl-C raises KeyboardInterrupt, and `progress` of the
-        search has the result so far; another search restarts. Network, working timetable and journal do not change. Raises
-        ValueError for seconds outside 0 to 1,000,000, or nodes outside 1 to 10**12.
-        """
-        nodes = index(nodes)
-        check_limits(seconds, nodes)
-        with self._session.waiting(seconds):
-            standing = self.standing()
-        session = self._session.in_library() if bounds else self._session
-        return Search(session, standing, seconds, nodes, watch)
-
     def _repr_html_(self) -> str:
         from pespbench.showing import bench_html
 
         return bench_html(self)
-
-    def _all(self, commands: Iterable[str]) -> None:
-        """Does commands, of which none may be refused. Raises the first refusal or fault."""
-        for outcome in self.many(commands):
-            if isinstance(outcome, (Refused, Fault)):
-                raise outcome

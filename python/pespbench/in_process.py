@@ -14,6 +14,7 @@ from typing import Callable, Iterator, List, Mapping, Optional, Sequence, Tuple,
 from pespbench.answers import Found, Infeasible, Optimum, Stopped
 from pespbench.commands import SEARCHES
 from pespbench.faults import BadReply, Ended
+from pespbench.files import NUMBERS, RESIDUES
 from pespbench.library import BEST_SO_FAR, DONE, FILES, NO_TIMETABLE, NOTHING_YET, OPTIMUM, Calls, Handle, Told, ToldFound, ended_by, fault
 from pespbench.transport import AfterMove, OutOfTime, Reached, Transport
 
@@ -159,6 +160,29 @@ class InProcess(Transport):
         if call is None:
             return None
         return self._in_time(partial(self._reached, call, nodes, events), None if deadline is None else deadline + PATIENCE)
+
+    def priced(self, event: int, time: int, nodes: int, deadline: Optional[float] = None) -> Optional[Reached]:
+        """What a search with the event at a time comes to, by the call for it, where the library has one."""
+        call = self._calls.price
+        if call is None:
+            return None
+        return self._in_time(partial(self._priced, call, event, time, nodes), None if deadline is None else deadline + PATIENCE)
+
+    def _priced(self, call: Callable[..., None], event: int, time: int, nodes: int) -> Reached:
+        came = ToldFound()
+        call(self._at, event, time, nodes, ctypes.addressof(came), self._told_at)
+        if self._told.status != DONE:
+            raise ended_by(self._told)
+        return Reached(found_by(came.state, came.cost, {}), came.lower_bound, goes_on=came.goes_on == 1)
+
+    def tried(self, event: int, time: int) -> Optional[int]:
+        """By how much a time would change the cost, by the call for it, where the library has one and all events have times."""
+        call, change = self._calls.try_move, ctypes.c_int64()
+        # Numbers that C would shorten are the program's to refuse.
+        if call is None or self._is_ended or event not in NUMBERS or time not in RESIDUES:
+            return None
+        call(self._at, event, time, ctypes.addressof(change), self._told_at)
+        return change.value if self._told.status == DONE else None
 
     def _reached(self, call: Callable[..., None], nodes: int, events: Sequence[int]) -> Reached:
         times, came = (ctypes.c_uint16 * len(events))(), ToldFound()

@@ -8,7 +8,7 @@ import functools
 import os
 from contextlib import suppress
 from pathlib import Path
-from typing import Callable, Iterator, NamedTuple, Optional, Union
+from typing import Any, Callable, Dict, Iterator, NamedTuple, Optional, Union
 
 from pespbench.faults import BadReply, Ended, NoLibrary
 from pespbench.process import find_program
@@ -90,8 +90,10 @@ class Calls(NamedTuple):
     ask: Callable[..., None]
     cost: Callable[..., None]
     close: Callable[..., None]
-    # An older library has none; there a search is a line.
+    # A library may have none of these; what they are for is done by lines there.
     search: Optional[Callable[..., None]] = None
+    try_move: Optional[Callable[..., None]] = None
+    price: Optional[Callable[..., None]] = None
 
 
 ADDRESS, LENGTH = ctypes.c_void_p, ctypes.c_size_t
@@ -102,8 +104,10 @@ PARAMETERS = {
     "pesp_cost": [ADDRESS, ADDRESS, ADDRESS],
     "pesp_close": [ADDRESS],
     "pesp_search": [ADDRESS, ctypes.c_uint64, ADDRESS, LENGTH, ADDRESS, ADDRESS],
+    "pesp_try_move": [ADDRESS, ctypes.c_uint32, ctypes.c_uint16, ADDRESS, ADDRESS],
+    "pesp_price": [ADDRESS, ctypes.c_uint32, ctypes.c_uint16, ctypes.c_uint64, ADDRESS, ADDRESS],
 }
-NEWER = ("pesp_search",)
+NEWER = ("pesp_search", "pesp_try_move", "pesp_price")
 
 
 @functools.lru_cache(maxsize=None)
@@ -113,14 +117,14 @@ def loaded(path: str) -> Calls:
         library = ctypes.CDLL(path)
     except OSError as fault:
         raise NoLibrary(f"{path} is no library that can be loaded: {fault}") from None
-    there = [name for name in PARAMETERS if hasattr(library, name)]
-    missing = [name for name in PARAMETERS if name not in (*there, *NEWER)]
+    calls: Dict[str, Any] = {name: getattr(library, name, None) for name in PARAMETERS}
+    missing = [name for name, call in calls.items() if call is None and name not in NEWER]
     if missing:
         raise NoLibrary(f"{path} is no library of this version of pespbench: it has no {missing[0]}")
-    calls = [getattr(library, name) for name in there]
-    for name, call in zip(there, calls):
-        call.argtypes, call.restype = PARAMETERS[name], None
-    return Calls(*calls)
+    for name, call in calls.items():
+        if call is not None:
+            call.argtypes, call.restype = PARAMETERS[name], None
+    return Calls(*calls.values())
 
 
 DONE, MEMORY, LONG_LINE = 0, 6, 7

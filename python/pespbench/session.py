@@ -3,7 +3,7 @@
 from __future__ import annotations
 
 from contextlib import contextmanager
-from typing import Iterator, List, Mapping, Optional, Sequence, Tuple, Union
+from typing import Callable, Iterator, List, Mapping, Optional, Sequence, Tuple, TypeVar, Union
 
 from pespbench.answers import Answer, Optimum
 from pespbench.commands import CHANGES, name_of, split
@@ -17,6 +17,7 @@ from pespbench.replies import answer_of, is_reply_to
 from pespbench.transport import Reached, Transport
 from pespbench.work import Work, work_of
 
+Kind = TypeVar("Kind")
 Outcome = Union[Answer, Refused, Fault]
 # What is told after a move.
 Cost = Union[int, Refused, Fault]
@@ -199,13 +200,17 @@ class Session:
 
     def searched(self, nodes: int, deadline: float) -> Reached:
         """What a search of so many nodes comes to, which leaves all as it was. Raises what `answer` raises."""
-        # What has no deadline in it is to open the engine again.
+        reached = self.by_call(lambda transport: transport.searched(nodes, self.work.network.events, deadline))
+        if reached is not None:
+            return reached
         with self.waiting(0):
-            with self._whole():
-                reached = self._ready(1).searched(nodes, self.work.network.events, deadline)
-            if reached is not None:
-                return reached
             return Reached(found_by(self.answer(f"try {nodes}", deadline)))
+
+    def by_call(self, call: Callable[[Transport], Kind]) -> Kind:
+        """What a call of the engine comes to, which leaves all as it was. Raises what the call raises."""
+        # What has no deadline in it is to open the engine again.
+        with self.waiting(0), self._whole():
+            return call(self._ready(1))
 
     def set_time(self, event: int, time: int) -> bool:
         """Sets a time where the engine does that at once and it is accepted; else nothing has changed."""

@@ -6,12 +6,15 @@ import argparse
 from contextlib import nullcontext
 from typing import Callable, Dict, List
 
-from pespbench.answers import Found, Stopped
+from pespbench.answers import Stopped
 from pespbench.client import Bench
 from pespbench.commands import SEARCHES
 from pespbench.faults import text_of as fault_text
 from pespbench.given import Given
+from pespbench.mend import text_of as mended_text
+from pespbench.mending import mended
 from pespbench.opening import add_network, open_network, seconds
+from pespbench.questions import Taken
 from pespbench.replies import text_of
 from pespbench.terminal import shown, tell
 from pespbench.watching import Line
@@ -32,7 +35,8 @@ Questions:
   dump                                the network as commands
 Of this shell:
   search SECONDS                      searches for the best timetable
-  take                                makes its result the working timetable
+  mend SECONDS                        searches for the nearest one to the working timetable
+  take                                makes the result of either the working timetable
   times                               shows the working timetable
   undo, redo                          undoes the last accepted change; repeats it
   save FOLDER                         writes network, times and labels, to open again
@@ -54,7 +58,7 @@ class Desk:
 
     def __init__(self, bench: Bench) -> None:
         self.bench = bench
-        self.found: Found = Stopped()
+        self.found: Taken = Stopped()
         self._undone: List[List[str]] = []
         self._journal: List[str] = []
 
@@ -124,24 +128,34 @@ def answer(desk: Desk, line: str) -> str:
     return text_of(line, desk.bench.many([line])[0])
 
 
-def _search(desk: Desk, time: str) -> str:
+def _limit(time: str) -> float:
     try:
-        limit = seconds(time)
+        return seconds(time)
     except argparse.ArgumentTypeError as fault:
         raise ValueError(str(fault)) from None
+
+
+def _mend(desk: Desk, time: str) -> str:
+    known = mended(desk.bench, seconds=_limit(time))
+    desk.found = known.near
+    return mended_text(known, desk.bench)
+
+
+def _search(desk: Desk, time: str) -> str:
+    limit = _limit(time)
     with Line() as line:
         try:
-            desk.found = desk.bench.search(limit, watch=line).found()
+            found = desk.bench.search(limit, watch=line).found()
         except KeyboardInterrupt:
-            desk.found = line.best
-    found = desk.found
+            found = line.best
+    desk.found = found
     return text_of("optimum", found) + (f"# {found_text(found)}\n" if isinstance(found, Stopped) else "")
 
 
 def _take(desk: Desk, _: str) -> str:
     if desk.found.cost is None:
         raise ValueError("no search of this shell has found a timetable")
-    desk.bench.set_times(desk.found.times)
+    desk.bench.take(desk.found)
     return "ok\n"
 
 
@@ -167,6 +181,7 @@ def _save(desk: Desk, folder: str) -> str:
 
 OWN: Dict[str, Callable[[Desk, str], str]] = {
     "search": _search,
+    "mend": _mend,
     "take": _take,
     "undo": _undo,
     "redo": _redo,

@@ -61,6 +61,14 @@ class Transport:
         """
         return None
 
+    def priced(self, event: int, time: int, nodes: int, deadline: Optional[float] = None) -> Optional[Reached]:
+        """What a search with the event at a time comes to, without its times, where there is a call for it. As `searched`."""
+        return None
+
+    def tried(self, event: int, time: int) -> Optional[int]:
+        """By how much a time would change the cost, where that can be told at once; nothing changes."""
+        return None
+
     def is_full(self, lines: int) -> bool:
         """Whether it does not take so many lines more."""
         return False

@@ -70,19 +70,25 @@ _opened = Opened()
 _in_hand: Dict[int, Tuple[Base, Bench]] = {}
 
 
-def answer_task(task: Task) -> Outcome:
-    """The answer to a variant, or the first refusal of its edits. Raises Ended, also where all is over, and BadReply."""
-    bench = _opened.bench(task.base)
-    _in_hand[threading.get_ident()] = task.base, bench
+@contextmanager
+def in_hand(base: Base, lines: int) -> Iterator[Bench]:
+    """The bench of a base in this worker, with room for so many lines. Raises Ended where all is over, and BadReply."""
+    bench = _opened.bench(base)
+    _in_hand[threading.get_ident()] = base, bench
     try:
         # Who ends all finds an engine here to end, or this finds that all is over: so it is opened before it looks.
-        bench._session.open(2 * len(task.edits) + 2)
-        if task.base.over:
+        bench._session.open(lines)
+        if base.over:
             raise Ended(-signal.SIGKILL, "")
-        with bench.trial():
-            *edits, answer = bench.many([*task.edits, task.question])
+        yield bench
     finally:
         del _in_hand[threading.get_ident()]
+
+
+def answer_task(task: Task) -> Outcome:
+    """The answer to a variant, or the first refusal of its edits. Raises Ended, also where all is over, and BadReply."""
+    with in_hand(task.base, 2 * len(task.edits) + 2) as bench, bench.trial():
+        *edits, answer = bench.many([*task.edits, task.question])
     return next((outcome for outcome in edits if isinstance(outcome, (Refused, Fault))), answer)
 
 

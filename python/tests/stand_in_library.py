@@ -5,7 +5,7 @@ from __future__ import annotations
 import ctypes
 import re
 from array import array
-from typing import Callable, Dict, List, MutableSequence, Optional, Union
+from typing import Callable, Dict, List, MutableSequence, Optional, Tuple, Union
 
 from pespbench.commands import CHANGES, name_of
 from pespbench.library import Calls, Handle, Told, ToldFound
@@ -23,10 +23,14 @@ class StandIn:
 
     Where it has the lower bound that a search tells after so many nodes, it has the call for searches, too. Calls of that one
     after the other are one search, which answers as `try` does with all their nodes; an edit of the network begins it anew.
+    Where it has prices, by event, time and nodes, it has the call for them: each is a state, a cost and a lower bound.
     """
 
-    def __init__(self, answer: Callable[[bytes], Answer], status: int = 0, bound: Optional[Callable[[int], int]] = None) -> None:
-        self.answer, self.status, self.bound = answer, status, bound
+    def __init__(
+        self, answer: Callable[[bytes], Answer], status: int = 0, bound: Optional[Callable[[int], int]] = None,
+        price: Optional[Callable[[int, int, int], Tuple[int, int, int]]] = None,
+    ) -> None:  # fmt: skip
+        self.answer, self.status, self.bound, self.price = answer, status, bound, price
         # The last is the nodes of the search so far.
         self.opened = self.closed = self.nodes = 0
         # What was asked.
@@ -34,7 +38,7 @@ class StandIn:
 
     def calls(self) -> Calls:
         """The calls, as those of a library."""
-        return Calls(self._open, self._ask, self._cost, self._close, self._search if self.bound else None)
+        return Calls(self._open, self._ask, self._cost, self._close, self._search if self.bound else None, price=self._price if self.price else None)
 
     def _open(self, *given: int) -> None:
         Told.from_address(given[-1]).status = self.status
@@ -80,6 +84,13 @@ class StandIn:
         found.cost = int(words[1]) if found.state in (1, 2) else 0
         found.lower_bound = self.bound(self.nodes) if self.bound else 0
         found.goes_on = found.state < 2
+
+    def _price(self, _: int, event: int, time: int, nodes: int, found: int, told: int) -> None:
+        assert self.price is not None
+        self.lines.append(b"pesp_price %d %d %d" % (event, time, nodes))
+        telling = ToldFound.from_address(found)
+        telling.state, telling.cost, telling.lower_bound = self.price(event, time, nodes)
+        telling.goes_on, Told.from_address(told).status = telling.state < 2, 0
 
     def _close(self, handle: int) -> None:
         self.closed += Handle.from_address(handle).is_open
