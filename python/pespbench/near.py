@@ -3,6 +3,7 @@
 from __future__ import annotations
 
 from dataclasses import dataclass, field
+from operator import index
 from typing import Dict, List, Mapping, Optional, Union
 
 from pespbench.faults import WrongWords
@@ -52,9 +53,10 @@ class Wish:
 
     @classmethod
     def of(cls, network: Network, times: Mapping[int, int], held: Mapping[int, int], most: Most, weights: Mapping[int, int]) -> "Wish":
-        """A wish about a network. Raises WrongWords for an event, a time, a move or a weight that cannot be."""
-        greatest = dict(most) if isinstance(most, Mapping) else {} if most is None else dict.fromkeys(network.windows, most)
-        wish = cls({**times, **held}, held, greatest, weights)
+        """A wish about a network. Raises WrongWords for an event, a time, a move or a weight that cannot be, and TypeError."""
+        greatest = most if isinstance(most, Mapping) else {} if most is None else dict.fromkeys(network.windows, most)
+        held, weights, greatest = whole(held), whole(weights), whole(greatest)
+        wish = cls({**whole(times), **held}, held, greatest, weights)
         unknown = sorted({*wish.times, *greatest, *weights} - network.windows.keys())
         if unknown:
             raise WrongWords(f"there is no event {unknown[0]}")
@@ -84,6 +86,11 @@ class Wish:
     def minutes(self, moves: Mapping[int, int]) -> int:
         """The sum of moves, each by its weight."""
         return sum(self.weight(event) * abs(move) for event, move in moves.items())
+
+
+def whole(given: Mapping[int, int]) -> Dict[int, int]:
+    """The same in plain whole numbers. Raises TypeError for any other value."""
+    return {index(event): index(number) for event, number in given.items()}
 
 
 class WithMoves:

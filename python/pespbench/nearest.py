@@ -33,7 +33,7 @@ class Nearest:
         """A search for what a wish asks, with a number of nodes in its first step. Raises WrongWords for too large a network."""
         self._bench, self._wish, self._nodes, self._watch = bench, wish, nodes, watch
         self._network = bench.network.copy()
-        self._until = clock.monotonic() + seconds
+        self._seconds, self._until = seconds, clock.monotonic() + seconds
         self.near = Near()
         with_costs = WithMoves(self._network, wish)
         self._asked = [with_costs] if with_costs.is_exact else [WithMoves(self._network, wish, with_costs=False), with_costs]
@@ -104,7 +104,7 @@ class Nearest:
     def _asked_bench(self, times: Mapping[int, int]) -> Tuple[Violations, Near]:
         """What a timetable violates and costs, as the bench says it."""
         bench, moves = self._bench, self._wish.moves(times, self._network.period)
-        with bench.trial():
+        with bench._session.waiting(self._seconds), bench.trial():
             bench._all(Work.change_to(bench.times, times))
             return bench.violations(), Near(times, moves, self._wish.minutes(moves), bench.cost())
 

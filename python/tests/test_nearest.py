@@ -13,7 +13,7 @@ from pespbench import BadReply, Bench, Mended, Near, Network, mended
 from pespbench.answers import Violations
 from pespbench.faults import WrongWords
 from pespbench.near import Wish, WithMoves
-from tests.common import PATIENCE, SOON, Case, drawn_script, over_both
+from tests.common import PATIENCE, SOON, Case, Whole, drawn_script, over_both
 from tests.test_prices import state_of
 from tests.test_progress import interrupt_when
 from tests.timetables import Timetable, apart, small_script, timetables
@@ -106,6 +106,8 @@ class Equal(Case):
             with self.subTest(name), self.assertRaises(WrongWords):
                 bench.near(times, held=held, most=most, weights=weights)  # type: ignore[arg-type]
         self.assertRaises(ValueError, bench.near, seconds=-1)
+        self.assertRaises(TypeError, bench.near, {1: 2.0})
+        self.assertEqual(bench.near({Whole(1): Whole(2)}, most=Whole(0)).found().times[1], 2)  # type: ignore[arg-type, dict-item]
         large = Network(60, dict.fromkeys(range(15_000)))
         self.assertRaisesRegex(WrongWords, "too large", WithMoves, large, Wish.of(large, dict.fromkeys(range(15_000), 0), {}, None, {}))
 
