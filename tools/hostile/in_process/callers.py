@@ -71,7 +71,9 @@ def crate(suite: Suite, library: Sequence[Path]) -> None:
     place, archive = suite.folder / "rust", suite.folder / "lib"
     shutil.copytree(HEADERS / "rust", place)
     archive.mkdir()
-    run(["ar", "qc", archive / "libpespbench.a", suite.folder / "heap.o", *library])
+    for path in [path for path in library if path.suffix == ".a"]:
+        shutil.copyfile(path, archive / "libpespbench.a")
+    run(["ar", "qcs", archive / "libpespbench.a", suite.folder / "heap.o", *(path for path in library if path.suffix != ".a")])
     target = host()
     env = {"PESPBENCH_LIB": archive, "RUSTFLAGS": " ".join(f"-Clink-arg={word}" for word in RUNTIMES)}
     env[f"CARGO_TARGET_{target.upper().replace('-', '_')}_RUNNER"] = " ".join([*WATCHED, f"LD_PRELOAD={runtime(FIRST)}"])
