@@ -95,8 +95,9 @@ class Questions(Tabled):
 
         `for price in bench.prices(event=3)` yields each Price when more is known of it, cheapest first where something is known,
         and `bench.prices(event=3).found()` returns all at the end (see Prices). All else holds as it is: residues outside of a
-        window have no timetable, unless a trial unfixes the event. With `within`, only what costs no more is of interest, which
-        is faster: other values get a lower bound above it. `nodes`, `watch`, and the values of `seconds` are those of `search`.
+        window have no timetable, unless a trial unfixes the event. With `within`, only what costs no more is of interest: other
+        values get a lower bound above it as soon as spans without the dearer minutes, or the engine's bound, show that they cost
+        more. `nodes`, `watch`, and the values of `seconds` are those of `search`.
 
         Raises WrongWords unless there is one such event or activity, or for a cost below 0, ValueError for other limits, and what
         `domain` raises.
