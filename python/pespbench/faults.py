@@ -2,6 +2,7 @@
 
 from __future__ import annotations
 
+import errno
 import os
 from typing import Optional
 
@@ -48,19 +49,21 @@ class Fault(PespbenchError):
 class Ended(PespbenchError):
     """The program ended before it had answered.
 
-    `status` is its exit status, negative if a signal ended it; `text` is its standard error. `cure` names the cause of a fault
-    of a file and its remedy, if known, and is otherwise empty. Accepted changes are kept: the next use of the bench restarts
+    `status` is its exit status, negative if a signal ended it; `text` is its standard error. For a fault of a file `path` is the
+    file, and `cure` names cause and remedy, if known; otherwise they are empty. Accepted changes are kept: the next use of the bench restarts
     the program. The library reports the same status and text where the program would end.
     """
 
-    def __init__(self, status: int, text: str, cure: str = "") -> None:
-        super().__init__(status, text, cure)
+    def __init__(self, status: int, text: str, cure: str = "", path: str = "") -> None:
+        super().__init__(status, text, cure, path)
         self.status = status
         self.text = text
         self.cure = cure
+        self.path = path
 
     def __str__(self) -> str:
-        return with_cure(self.text or f"the program ended with status {self.status} and said nothing", self.cure)
+        text = self.text.replace(" file", f" file {shown(self.path)}", 1) if self.path else self.text
+        return with_cure(text or f"the program ended with status {self.status} and said nothing", self.cure)
 
 
 class GivenUp(Ended):
@@ -122,19 +125,26 @@ def with_cure(text: str, cure: str) -> str:
     return f"{text}. {cure}" if cure else text
 
 
-# What the system's faults mean for the file that they name.
+# What the system's faults mean for the file that they name, by their kind or number.
 MEANINGS = (
     (FileNotFoundError, "there is no file {}"), (IsADirectoryError, "{} is a folder, and no file"), (NotADirectoryError, "{} is below what is no folder"),
     (FileExistsError, "{} is there already"), (PermissionError, "{} may not be read or written"),
 )  # fmt: skip
+NUMBERED = {
+    errno.ENOSPC: "there is no room for {} on its disk", errno.EDQUOT: "there is no room for {} on its disk", errno.EROFS: "{} is on a disk that may not be written",
+    errno.ENAMETOOLONG: "{} is too long a name", errno.ELOOP: "{} is a link that leads back to itself", errno.ENOTEMPTY: "{} is a folder that is not empty",
+}  # fmt: skip
+OTHERS = "{} cannot be read or written"
 
 
 def text_of(fault: Exception) -> str:
-    """The text of a fault: one of the system's has no number, and the file that it names."""
+    """The text of a fault: one of the system's is told in words, with the file that it names."""
     if not isinstance(fault, OSError) or fault.strerror is None:
         return str(fault)
-    if fault.filename is None:
-        return fault.strerror
-    name = os.fsdecode(fault.filename) if isinstance(fault.filename, (str, bytes, os.PathLike)) else str(fault.filename)
-    form = next((form for kind, form in MEANINGS if isinstance(fault, kind)), None)
-    return form.format(name) if form else f"{name}: {fault.strerror}"
+    form = next((form for kind, form in MEANINGS if isinstance(fault, kind)), NUMBERED.get(fault.errno or 0, OTHERS))
+    return form.format("a file" if fault.filename is None else name_of(fault.filename))
+
+
+def name_of(file: object) -> str:
+    """The name of a file as a fault of the system has it."""
+    return os.fsdecode(file) if isinstance(file, (str, bytes, os.PathLike)) else str(file)

@@ -54,6 +54,8 @@ ACTIVITY: Sequence[Column] = [*[(number_in, NUMBERS)] * 3, *[(number_in, BOUNDS)
 TIME: Sequence[Column] = [(number_in, NUMBERS), (number_in, TIMES)]
 WINDOW: Sequence[Column] = [(number_in, NUMBERS), (number_in, RESIDUES), (number_in, RESIDUES)]
 EVENT: Sequence[Column] = [(number_in, NUMBERS)]
+# What is listed in a file, by how many columns it has.
+KINDS = {6: "activities", 3: "windows", 2: "times", 1: "numbers"}
 
 
 def values(path: Path, columns: Sequence[Column], twice: str) -> Iterator[List[int]]:
@@ -69,7 +71,7 @@ def values(path: Path, columns: Sequence[Column], twice: str) -> Iterator[List[i
             if row[0] in seen:
                 raise ValueError(twice)
         except ValueError as fault:
-            raise file_fault(path, record, str(fault), len(columns)) from None
+            raise file_fault(path, record, str(fault), KINDS[len(columns)]) from None
         seen.add(row[0])
         yield row
 

@@ -20,12 +20,14 @@ from dataclasses import astuple, dataclass, field
 from typing import Dict, List, Union
 
 from pespbench import files
-from pespbench.curing import file_fault
+from pespbench.curing import file_fault, named_by
 from pespbench.records import records
 from pespbench.writing import write_text
 
 EVENT_HEADER = ["event", "line", "to", "station", "kind"]
 ACTIVITY_HEADER = ["activity", "kind"]
+# The kinds that a planner usually cannot change.
+USUALLY_KEPT = ("run", "dwell", "headway")
 
 
 @dataclass(frozen=True)
@@ -54,12 +56,14 @@ class Labels:
             try:
                 if fields[0] in ("event", "activity"):
                     part = fields[0]
+                    if named_by(fields) not in ("", "labels"):
+                        raise ValueError("it is no header of labels")
                 elif fields[0] == "cost":
                     labels.cost = "".join(fields[1:2])
                 else:
                     labels._take(part, fields)
             except ValueError as fault:
-                raise file_fault(path, record, str(fault)) from None
+                raise file_fault(path, record, str(fault), "labels") from None
         return labels
 
     def _take(self, part: str, fields: List[str]) -> None:

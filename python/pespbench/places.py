@@ -42,7 +42,7 @@ def read_places(path: Union[str, "os.PathLike[str]"]) -> Dict[str, Place]:
             station, x, y = fields
             places[station] = measure(x), measure(y)
         except ValueError:
-            raise file_fault(path, record, "wanted station; x; y") from None
+            raise file_fault(path, record, "wanted station; x; y", "places") from None
     return places
 
 

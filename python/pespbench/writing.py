@@ -12,9 +12,9 @@ import errno
 import os
 import secrets
 import stat
-from contextlib import suppress
+from contextlib import contextmanager, suppress
 from dataclasses import dataclass
-from typing import Mapping, Optional, Union
+from typing import Iterator, Mapping, Optional, Union
 
 Path = Union[str, "os.PathLike[str]"]
 # Nothing that stands at a fresh name is opened, and a child that is started meanwhile does not get the file.
@@ -95,12 +95,14 @@ def write_all(texts: Mapping[str, str]) -> None:
     replaced = [Replacing(path, mode) for path, mode in modes.items() if is_replaced(mode)]
     try:
         for each in replaced:
-            each.write(texts[each.path])
+            with naming(each.path):
+                each.write(texts[each.path])
         for path, mode in modes.items():
             if not is_replaced(mode):
                 write_in_place(path, texts[path])
         for each in replaced:
-            each.take_place()
+            with naming(each.path):
+                each.take_place()
     except BaseException:
         for each in reversed(replaced):
             each.put_back()
@@ -110,6 +112,18 @@ def write_all(texts: Mapping[str, str]) -> None:
             each.clear()
     for folder in {os.path.dirname(each.path) for each in replaced}:
         sync_folder(folder)
+
+
+@contextmanager
+def naming(path: str) -> Iterator[None]:
+    """Within, a fault names the file that is to be written, and not the one beside it. Raises OSError."""
+    try:
+        yield
+    except OSError as fault:
+        if isinstance(fault, FileNotFoundError) and not os.path.isdir(os.path.dirname(path) or os.curdir):
+            raise NotADirectoryError(errno.ENOTDIR, os.strerror(errno.ENOTDIR), path) from None
+        fault.filename = path
+        raise
 
 
 def mode_of(path: str) -> Optional[int]:

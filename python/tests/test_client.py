@@ -169,11 +169,12 @@ class Raised(Case):
     def test_what_cannot_be_opened(self) -> None:
         with self.assertRaises(Ended) as told:
             Bench.open(self.folder / "none", **self.how)
-        self.assertEqual((told.exception.status, str(told.exception)), (1, "pespbench: activities file cannot be read"))
+        wanted = f"pespbench: activities file {self.folder}/none cannot be read. There is no such file."
+        self.assertEqual((told.exception.status, str(told.exception)), (1, wanted))
         wrong = EXAMPLES / "swapped-bounds/activities"
         with self.assertRaises(Ended) as told:
             Bench.open(wrong, **self.how)
-        self.assertEqual(str(told.exception), "pespbench: activities file, record 2: lower bound above upper bound")
+        self.assertEqual(str(told.exception), f"pespbench: activities file {wrong}, record 2: lower bound above upper bound")
         with self.assertRaises(Ended) as told:
             Bench.open(None, period=1, **self.how)
         self.assertEqual(told.exception.status, 2)

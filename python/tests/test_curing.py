@@ -50,7 +50,8 @@ class Cures(Case):
             with self.subTest(text=text):
                 self.assertEqual((ended.cure, told.exception.cure), (cure, cure))
                 self.assertTrue(ended.text.startswith("pespbench: activities file, record "))
-                self.assertEqual(str(ended), f"{ended.text}. {cure}" if cure else ended.text)
+                named = ended.text.replace("activities file", f"activities file {path}")
+                self.assertEqual((str(ended), ended.path), (f"{named}. {cure}" if cure else named, str(path)))
                 self.assertTrue(str(told.exception).endswith(cure or told.exception.text))
 
     def test_times_and_fixed_times(self) -> None:
@@ -76,6 +77,35 @@ class Cures(Case):
         for text, cure in {"Dale; 1,5; 2\n": DECIMAL, "Dale\t1\t2\n": TABS, "Dale; one; 2\n": ""}.items():
             path.write_text(text)
             self.assertEqual(self.fault(lambda: read_places(path)).cure, cure)
+
+    def test_in_each_others_place(self) -> None:
+        """A file of another kind is told as that, by its header or by its first row."""
+        times, labels, places = "event; time\n1; 0\n", "event; line; to; station; kind\n1; M\n", "station; x; y\nDale; 1; 2\n"
+        table = {"activities": [ROWS, ROWS.split("\n", 1)[1], ROWS.replace("; ", ",")], "times": [times, "1; 0\n", "-1,0\n"], "labels": [labels], "places": [places]}
+        path, activities = self.folder / "file", self.folder / "activities"
+        activities.write_text(ROWS)
+        for found, texts in table.items():
+            for text in texts:
+                path.write_text(text)
+                for wanted in {"activities", "times", "fixed"} - {found, "fixed" if found == "times" else ""}:
+                    given: Dict[str, Any] = {**self.how, "activities": activities, wanted: path}
+                    with self.subTest(text=text, wanted=wanted), self.assertRaises(Ended) as told:
+                        Bench.open(**given).close()
+                    kind = "activities" if wanted == "activities" else "times"
+                    self.assertEqual(told.exception.cure, f"It is a file of {found}, and not of {kind}. Give each file in its own place.")
+                if found not in ("labels", "places"):
+                    self.assertIn(f"a file of {found}, and not of labels", self.fault(lambda: Labels.read(path)).cure)
+                    self.assertIn(f"a file of {found}, and not of places", self.fault(lambda: read_places(path)).cure)
+
+    def test_what_cannot_be_read(self) -> None:
+        """The file is named, and what is wrong with it."""
+        (self.folder / "activities").write_text(ROWS)
+        for path, cure in {self.folder / "none": "There is no such file.", self.folder: "It is a folder."}.items():
+            for option in ("times", "fixed"):
+                given: Dict[str, Any] = {**self.how, option: path}
+                with self.assertRaises(Ended) as told:
+                    Bench.open(self.folder / "activities", **given).close()
+                self.assertEqual(str(told.exception), f"pespbench: {option} file {path} cannot be read. {cure}")
 
     def fault(self, read: Callable[[], object]) -> FileFault:
         """The fault that reading raises."""

@@ -61,7 +61,7 @@ READERS: Dict[str, Callable[[Path], Any]] = {
     "LinTim's times": read_timetable,
     "LinTim's stops": lambda path: read_stops(path, LinTim({}, {}, 1)),
     "a solver's lines": solved,
-    "what mends a file": lambda path: cure_of(path, 1, 6),
+    "what mends a file": lambda path: cure_of(path, 1, "activities"),
     "the period of a script": lines_of,
     "a reply": lambda path: list(replies_of(text_of(path))),
     "a name in a file": lambda path: quoted(text_of(path)),

@@ -10,11 +10,12 @@ from pespbench.client import Bench
 from pespbench.commands import GREATEST_BOUND
 from pespbench.faults import WrongWords
 from pespbench.helps.answers import Gain
+from pespbench.labels import USUALLY_KEPT
 from pespbench.network import Activity
 from pespbench.terminal import shown
 
-# What is usually not a planner's to change, and the kind of an activity that has none.
-USUALLY_KEPT, NO_KIND = ("run", "dwell", "headway"), "activity"
+# The kind of an activity that has none.
+NO_KIND = "activity"
 
 
 @dataclass(frozen=True)
