@@ -3,7 +3,7 @@
 from __future__ import annotations
 
 from dataclasses import dataclass, field
-from typing import Dict, List, Mapping, Optional
+from typing import Dict, Iterable, List, Mapping, Optional, Set, Tuple
 
 
 @dataclass(frozen=True)
@@ -90,3 +90,18 @@ def activity_command(activity: Activity) -> str:
     """The command that adds an activity."""
     ends = f"{activity.from_event} {activity.to_event}"
     return f"add activity {activity.number} {ends} {activity.lower} {activity.upper} {activity.weight}"
+
+
+def parts_of(events: Iterable[int], joins: Iterable[Tuple[int, int]]) -> List[Set[int]]:
+    """The parts into which pairs of joined events divide all events."""
+    parts: Dict[int, Set[int]] = {event: {event} for event in events}
+    for first, last in joins:
+        larger, smaller = parts[first], parts[last]
+        if larger is smaller:
+            continue
+        if len(larger) < len(smaller):
+            larger, smaller = smaller, larger
+        larger |= smaller
+        for event in smaller:
+            parts[event] = larger
+    return list({id(part): part for part in parts.values()}.values())

@@ -51,10 +51,10 @@ def opened(folder: Path, seed: int, feasible: bool, program: str) -> Bench:
 def measure(folder: Path, seed: int, program: str) -> Sequence[float]:
     """The figures of a seed."""
     with opened(folder, seed, False, program) as bench:
-        answer = why(bench)
+        answer = why(bench, ())
         if not isinstance(answer, Conflict):
             raise ValueError(f"seed {seed}: no conflict was found")
-        figures = [seconds(lambda: why(bench)), seconds(lambda: why(bench, HARD))]
+        figures = [seconds(lambda: why(bench, ())), seconds(lambda: why(bench, HARD))]
     with opened(folder, seed, True, program) as bench:
         bench.fix(1, bench.times[1])
         figures.append(seconds(lambda: page_of(gather(bench, "Region"))))

@@ -151,7 +151,7 @@ class Told(Case):
     """Answers in words."""
 
     def told(
-        self, commands: list[str], period: int, hard: tuple[str, ...] = (), kinds: dict[int, str] | None = None, lower: bool = False
+        self, commands: list[str], period: int, hard: tuple[str, ...] | None = (), kinds: dict[int, str] | None = None, lower: bool = False
     ) -> str:
         """What is told of a network with few labels."""
         with Bench.from_script("\n".join(commands), period=period, **self.how) as bench:
@@ -162,18 +162,46 @@ class Told(Case):
         commands = ["add event 1", "add event 2", "add activity 1 1 2 3 3 0", "add activity 2 2 1 4 6 0"]
         text = self.told(commands, 10)
         self.assertIn("they take 7 to 9 minutes, and have to take 0 or 10: a whole number of periods", text)
-        self.assertIn("1 minute more  activity 1 from event 1 to event 2  3 to 4 minutes in place of 3\n", text)
-        self.assertIn("1 minute more  activity 2 from event 2 to event 1  4 to 7 minutes in place of 4 to 6\n", text)
+        self.assertIn("  1 minute more  anywhere on it, such as activity 1 from event 1 to event 2  3 to 4 minutes in place of 3\n", text)
+        self.assertEqual(text.count("in place of"), 1)
+
+    def test_circle_with_kinds(self) -> None:
+        """A turnaround is named before a change and others; what runs against the circle has a line of its own."""
+        commands = [f"add event {event}" for event in (1, 2, 3, 4)]
+        commands += ["add activity 1 1 2 3 3 0", "add activity 2 2 3 4 6 0", "add activity 3 3 4 3 4 0", "add activity 4 1 4 2 3 0"]
+        kinds = {1: "run", 2: "change", 3: "turnaround", 4: "dwell"}
+        anywhere, turn = "2 minutes more  anywhere on it that is not hard, such as ", "turnaround 3 from event 3 to event 4  3 to 6 minutes in place of 3 to 4\n"
+        usual, free = self.told(commands, 13, None, kinds), self.told(commands, 13, (), kinds)
+        self.assertIn(f"  {anywhere}{turn}", usual)
+        self.assertEqual([usual.count("in place of"), free.count("in place of"), usual.count("hard)")], [1, 2, 2])
+        self.assertIn("2 minutes more  anywhere on it, such as turnaround 3 ", free)
+        self.assertRegex(free, r"\d+ minutes more  dwell 4 from event 1 to event 4 ")
+        one = self.told(commands, 13, ("run", "change"), kinds)
+        self.assertIn(f"  2 minutes more  {turn}", one)
+
+    def test_just_what_is_usually_kept(self) -> None:
+        """Runs and dwells can be changed where nothing else is in the conflict, unless that is asked for."""
+        commands = ["add event 1", "add event 2", "add activity 1 1 2 3 3 0", "add activity 2 2 1 4 6 0"]
+        kinds = {1: "run", 2: "dwell"}
+        self.assertIn("1 minute more  anywhere on it, such as run 1 ", self.told(commands, 10, None, kinds))
+        self.assertIn("No member that may be changed", self.told(commands, 10, ("run", "dwell"), kinds))
+
+    def test_mends_that_leave_another_conflict(self) -> None:
+        """Where some of a circle mend the whole network and some do not, each has a line of its own."""
+        commands = ["add event 1", "add event 2", "add activity 1 1 2 3 3 0", "add activity 2 2 1 4 6 0", "add activity 3 2 1 6 6 0"]
+        text = self.told(commands, 10, (), {2: "turnaround"})
+        self.assertNotIn("anywhere", text)
+        self.assertEqual(text.count("in place of"), 2)
 
     def test_lowered(self) -> None:
         """Least minutes are lowered where that is asked for, and then it is told as less."""
         commands = ["add event 1", "add event 2", "add activity 1 1 2 5 5 0", "add activity 2 2 1 7 7 0"]
         kept, lowered = self.told(commands, 10), self.told(commands, 10, lower=True)
-        self.assertIn("8 minutes more  activity 1 from event 1 to event 2  5 to 13 minutes in place of 5\n", kept)
+        self.assertIn("8 minutes more  anywhere on it, such as activity 1 from event 1 to event 2  5 to 13 minutes in place of 5\n", kept)
         self.assertIn("2 minutes less  activity 1 from event 1 to event 2  3 to 5 minutes in place of 5\n", lowered)
         self.assertEqual([kept.count(" less  "), lowered.count(" more  ")], [0, 0])
         both = self.told(["add event 1", "add event 2", "add activity 1 1 2 1 1 0", "add activity 2 2 1 4 5 0"], 10, lower=True)
-        self.assertIn("4 minutes more  activity 1 from event 1 to event 2  1 to 5 minutes in place of 1\n", both)
+        self.assertIn("4 minutes more  anywhere on it, such as activity 1 from event 1 to event 2  1 to 5 minutes in place of 1\n", both)
 
     def test_way(self) -> None:
         commands = ["add event 1", "add event 2", "add activity 1 1 2 3 4 0", "fix 1 9", "window 2 5 2"]

@@ -48,6 +48,7 @@ class Words(Case):
         network = str(self.folder / "activities")
         told = self.typed("why", network, "--labels", str(self.folder / "labels"), "--hard", "run,dwell,headway", "--seconds", "100")
         self.assertIn("minutes (hard)\n", told)
+        self.assertEqual(self.typed("why", network, "--labels", str(self.folder / "labels"), "--seconds", "100"), told)
         self.assertIn("The least that mends it", told)
 
     def test_report(self) -> None:
@@ -132,7 +133,7 @@ class Words(Case):
             self.typed("report", LINE, "--places", str(self.folder / "missing"), status=1)
             self.typed("why", str(self.folder / "missing"), status=1)
         self.assertIn("record 1: wanted station; x; y", told.getvalue())
-        self.assertIn("activities file cannot be read", told.getvalue())
+        self.assertIn(f"activities file {self.folder}/missing cannot be read. There is no such file.\n", told.getvalue())
 
 
 if __name__ == "__main__":

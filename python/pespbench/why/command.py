@@ -17,7 +17,7 @@ def add_parser(subparsers: argparse._SubParsersAction[argparse.ArgumentParser]) 
     """Adds the subcommand's parser."""
     parser = subparsers.add_parser("why", help="why no timetable meets everything, and how to repair it")
     add_network(parser)
-    parser.add_argument("--hard", metavar="KINDS", default="", help="kinds that must not change, such as run,dwell,headway")
+    parser.add_argument("--hard", metavar="KINDS", help="kinds that must not change, or '' for none [default: run,dwell,headway, beside others]")
     parser.add_argument("--lower", action="store_true", help="let repairs also lower the minimum minutes of activities")
     parser.add_argument("--nodes", type=whole, default=2_000, help="the nodes of each search of a part [default: 2000]")
     parser.add_argument("--seconds", type=some_seconds, default=10.0, help="about how long to search in all [default: 10]")
@@ -36,7 +36,7 @@ def some_seconds(text: str) -> float:
 def run(words: argparse.Namespace) -> int:
     """Tells why, on standard output."""
     with open_network(words) as bench:
-        hard = [kind for kind in map(str.strip, words.hard.split(",")) if kind]
+        hard = None if words.hard is None else [kind for kind in map(str.strip, words.hard.split(",")) if kind]
         answer = why(bench, hard, words.nodes, words.seconds, words.lower)
         names = Names(bench.labels, bench.network.activities)
         tell(in_form(words.form, table_of(answer, names), text_of(answer, names)))

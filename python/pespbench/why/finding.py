@@ -3,11 +3,11 @@
 from __future__ import annotations
 
 import time
-from typing import Collection, Sequence
+from typing import Collection, Optional, Sequence
 
 from pespbench.client import Bench
 from pespbench.faults import GivenUp, WrongWords
-from pespbench.labels import Labels
+from pespbench.labels import USUALLY_KEPT, Labels
 from pespbench.terminal import shown
 from pespbench.why.answers import Conflict, Possible, Undecided, Why
 from pespbench.why.members import Kept, Member, Of, Verdict
@@ -22,7 +22,7 @@ FIRST_NODES, MORE = 500, 4
 FIXED = "fixed"
 
 
-def why(bench: Bench, hard: Collection[str] = (), nodes: int = 2_000, seconds: float = 10.0, lower: bool = False) -> Why:
+def why(bench: Bench, hard: Optional[Collection[str]] = None, nodes: int = 2_000, seconds: float = 10.0, lower: bool = False) -> Why:
     """A least set of activities, fixed times and windows of a network that cannot be met together.
 
     There is none where the working timetable meets everything, which is looked at first. The bench is not changed, for a
@@ -31,7 +31,8 @@ def why(bench: Bench, hard: Collection[str] = (), nodes: int = 2_000, seconds: f
 
     Args:
         hard: kinds of activities, by the bench's labels, that are not to be changed; `fixed` are fixed times and windows.
-            They may be in the conflict, which has as few others as can be, and no mend changes them.
+            They may be in the conflict, which has as few others as can be, and no mend changes them. By default they are
+            runs, dwells and headways, unless the conflict has nothing else.
         nodes: the nodes of each search of a part.
         seconds: about the longest that is looked whether the whole network has a timetable, and as long again for mends.
         lower: whether a mend may lower the least minutes of an activity too; else all keep them.
@@ -42,11 +43,18 @@ def why(bench: Bench, hard: Collection[str] = (), nodes: int = 2_000, seconds: f
     """
     if nodes < 1 or not seconds > 0:
         raise ValueError("nodes and seconds have to be above 0")
-    held = hard_members(bench, hard)
+    is_usual = hard is None
+    held = hard_members(bench, usually_hard(bench) if hard is None else hard)
     if (standing := bench.standing()).cost is not None:
         return Possible(dict(standing.times))
     with Bench.from_script(bench.dump(), period=bench.period, engine=bench.engine, patience=seconds) as copy:
-        return Finding(Probe(copy), held, nodes, seconds, lower).answer()
+        return Finding(Probe(copy), held, is_usual, nodes, seconds, lower).answer()
+
+
+def usually_hard(bench: Bench) -> list[str]:
+    """The kinds that are not to be changed where none is named."""
+    known = set(bench.labels.activities.values())
+    return [kind for kind in USUALLY_KEPT if kind in known]
 
 
 def hard_members(bench: Bench, kinds: Collection[str]) -> frozenset[Member]:
@@ -62,10 +70,10 @@ def hard_members(bench: Bench, kinds: Collection[str]) -> frozenset[Member]:
 
 
 class Finding:
-    """The way to a conflict, over one probe."""
+    """The way to a conflict, over one probe; members that are just usually hard are not where nothing else is in it."""
 
-    def __init__(self, probe: Probe, hard: frozenset[Member], nodes: int, seconds: float, lower: bool) -> None:
-        self.probe, self.hard, self.nodes, self.seconds, self.lower = probe, hard, nodes, seconds, lower
+    def __init__(self, probe: Probe, hard: frozenset[Member], is_usual: bool, nodes: int, seconds: float, lower: bool) -> None:
+        self.probe, self.hard, self.is_usual, self.nodes, self.seconds, self.lower = probe, hard, is_usual, nodes, seconds, lower
 
     def answer(self) -> Why:
         """A timetable, a conflict, or neither where none was found in time."""
@@ -125,8 +133,9 @@ class Finding:
         without = {member: self._without(members, member) for member in kept}
         shape = shape_of(kept, self.probe.activities, self.probe.period)
         mending = Mending(self.probe, kept, shape, self.nodes, self.lower)
-        mends = mending.mends([member for member in kept if member not in self.hard], time.monotonic() + self.seconds)
-        return Conflict(kept, self.hard & set(kept), self.nodes, without, shape, mends)
+        hard = frozenset() if self.is_usual and self.hard >= set(kept) else self.hard & set(kept)
+        mends = mending.mends([member for member in kept if member not in hard], time.monotonic() + self.seconds)
+        return Conflict(kept, hard, self.nodes, without, shape, mends)
 
     def _without(self, members: list[Member], member: Member) -> Verdict:
         return self.probe.by_search(self._kept([each for each in members if each != member]), self.nodes)

@@ -6,13 +6,13 @@ was let go, so holding one of its events at 0 takes no timetable away from which
 
 from __future__ import annotations
 
-from typing import Iterable, Optional
+from typing import Optional
 
 from pespbench.answers import Domain, Infeasible, Optimum, Stopped
 from pespbench.client import Bench
 from pespbench.commands import GREATEST_BOUND
 from pespbench.faults import PespbenchError
-from pespbench.network import Window, window_command
+from pespbench.network import Window, parts_of, window_command
 from pespbench.session import Outcome
 from pespbench.why.members import Bounds, Held, Kept, Member, Of, Span, Verdict, members_of
 
@@ -122,18 +122,3 @@ class Probe:
             if isinstance(answer, PespbenchError):
                 raise answer
         return answers
-
-
-def parts_of(events: Iterable[int], joins: Iterable[tuple[int, int]]) -> list[set[int]]:
-    """The parts into which pairs of joined events divide all events."""
-    parts = {event: {event} for event in events}
-    for first, last in joins:
-        larger, smaller = parts[first], parts[last]
-        if larger is smaller:
-            continue
-        if len(larger) < len(smaller):
-            larger, smaller = smaller, larger
-        larger |= smaller
-        for event in smaller:
-            parts[event] = larger
-    return list({id(part): part for part in parts.values()}.values())

@@ -5,7 +5,7 @@ from __future__ import annotations
 from pespbench.forms import Table
 from pespbench.why.answers import Possible, Undecided, Why
 from pespbench.why.members import Bounds, Held, Member
-from pespbench.why.telling import member_name, ordered
+from pespbench.why.telling import in_order, member_name, ordered
 from pespbench.wording import Names
 
 TITLES = ["part", "of", "number", "name", "lower", "upper", "hard", "minutes", "whole"]
@@ -18,7 +18,7 @@ def table_of(answer: Why, names: Names) -> Table:
     if isinstance(answer, Undecided):
         return Table("undecided", {"nodes": answer.nodes})
     rows = [["member", *told(each, answer.members[each], names), each in answer.hard, None, None] for each in ordered(answer)]
-    for mend in answer.mends:
+    for mend in in_order(answer.mends, names):
         rows.append(["mend", *told(mend.member, mend.after, names), False, mend.minutes, mend.whole.value if mend.whole else None])
     return Table("conflict", {"is_least": answer.is_least}, TITLES, rows)
 

@@ -2,6 +2,8 @@
 
 from __future__ import annotations
 
+from typing import Sequence
+
 from pespbench.why.answers import Conflict, Mend, Possible, Undecided, Why
 from pespbench.why.members import Bounds, Held, Member, Of, Verdict
 from pespbench.why.shapes import Circle, Shape
@@ -14,6 +16,8 @@ WHOLE = {
     Verdict.UNDECIDED: "these mend the conflict, and whether the whole network has a timetable then is undecided:",
     Verdict.INFEASIBLE: "with each of these another conflict is left:",
 }
+# The kinds whose mends are told before others of as many minutes: theirs are the easiest to give.
+FIRST_KINDS = ("turnaround", "turn", "change")
 
 
 def text_of(answer: Why, names: Names) -> str:
@@ -101,15 +105,48 @@ def mends_text(conflict: Conflict, names: Names) -> str:
         return "No member that may be changed is seen to mend it alone.\n"
     blocks = ["The least that mends it, for one member alone, best first;"]
     for verdict, words in WHOLE.items():
-        listed = [mend for mend in conflict.mends if mend.whole is verdict]
-        if listed:
-            width = max(len(member_name(mend.member, names)) for mend in listed)
-            blocks.append("\n".join([words, "", *(mend_line(mend, names, width) for mend in listed)]) + "\n")
+        rows = mend_rows([mend for mend in in_order(conflict.mends, names) if mend.whole is verdict], conflict, names)
+        if rows:
+            width = max(len(where) for _, where, _ in rows)
+            blocks.append("\n".join([words, "", *(f"  {count:>15}  {where:<{width}}  {change}" for count, where, change in rows)]) + "\n")
     return "\n".join(blocks)
 
 
-def mend_line(mend: Mend, names: Names, width: int) -> str:
-    """One mend in a line."""
-    change = f"{bounds_text(mend.after)} in place of {bounds_text(mend.before).removesuffix(' minutes')}"
-    more = "less" if mend.is_less else "more"
-    return f"  {minutes(mend.minutes):>10} {more}  {member_name(mend.member, names):<{width}}  {change}"
+def in_order(mends: Sequence[Mend], names: Names) -> list[Mend]:
+    """The mends as they come, but turnarounds and then changes before others of as many minutes and with the same answer."""
+
+    def rank(mend: Mend) -> tuple[int, int, int]:
+        kind = names.labels.kind(mend.member.number) if mend.member.of is Of.ACTIVITY else ""
+        return list(WHOLE).index(mend.whole), mend.minutes, [*FIRST_KINDS, kind].index(kind)
+
+    return sorted(mends, key=rank)
+
+
+def mend_rows(mends: Sequence[Mend], conflict: Conflict, names: Names) -> list[tuple[str, str, str]]:
+    """For each mend its minutes, where, and the change; those all along a circle or way, with the same minutes, are one."""
+    alike = alike_of(mends, conflict)
+    rows = []
+    for mend in mends:
+        if mend not in alike[1:]:
+            anywhere = f"anywhere on it{' that is not hard' if conflict.hard else ''}, such as " if mend in alike[:1] else ""
+            rows.append((count_text(mend), anywhere + member_name(mend.member, names), change_text(mend)))
+    return rows
+
+
+def alike_of(mends: Sequence[Mend], conflict: Conflict) -> list[Mend]:
+    """The mends of the steps along a circle or way that may be changed, if all have the same minutes; else none."""
+    steps = conflict.shape.steps if conflict.shape else []
+    along = {Member(Of.ACTIVITY, step.activity.number) for step in steps if step.is_forward} - conflict.hard
+    found = [mend for mend in mends if mend.member in along and not mend.is_less]
+    is_one = len(found) == len(along) > 1 and len({mend.minutes for mend in found}) == 1
+    return found if is_one else []
+
+
+def count_text(mend: Mend) -> str:
+    """By how many minutes a mend widens."""
+    return f"{minutes(mend.minutes)} {'less' if mend.is_less else 'more'}"
+
+
+def change_text(mend: Mend) -> str:
+    """What a mend asks for, and what is asked now."""
+    return f"{bounds_text(mend.after)} in place of {bounds_text(mend.before).removesuffix(' minutes')}"
