@@ -14,6 +14,7 @@ from pespbench.labels import Labels
 from pespbench.network import Activity, Network, Window
 from pespbench.opening import add_network, open_network
 from pespbench.terminal import shown, tell
+from pespbench.turning import turns
 from pespbench.wording import Names, clock, minutes, span_text, window_text
 
 NO_TIME = 11
@@ -125,17 +126,26 @@ def held_text(window: Optional[Window], period: int) -> str:
 
 
 def moved_times(before: Side, after: Side, names: Names) -> Iterator[str]:
-    """The times that are other, ascending by event, or that all times moved alike."""
+    """The times that are other, ascending by event, or that all times moved alike; what nothing holds is turned to agree first."""
     period = after.network.period
-    shared = [event for event in sorted(after.times) if event in before.times]
-    moves = {event: moved(before.times[event], after.times[event], period) for event in shared}
+    times = dict(after.times)
+    for events, turn in turns(after.network, times, before.times) if before.network.period == period else ():
+        times.update((event, (times[event] + turn) % period) for event in events)
+        yield f"{len(events)} times that nothing holds, as of {names.event(events[0])}, turned by {signed(moved(0, turn, period))} to agree"
+    shared = [event for event in sorted(times) if event in before.times]
+    moves = {event: moved(before.times[event], times[event], period) for event in shared}
     if len(moves) > 1 and len(set(moves.values())) == 1 and moves[shared[0]]:
         yield f"all {len(moves)} times moved by {signed(moves[shared[0]])}"
         return
-    for event in sorted({*before.times, *after.times}):
+    for event in sorted({*before.times, *times}):
         if moves.get(event) != 0:
-            times = (clock(side.times[event], side.network.period) if event in side.times else "no time" for side in (before, after))
-            yield f"{names.event(event)}: {' to '.join(times)}" + (f" ({signed(moves[event])})" if event in moves else "")
+            both = [clock_of(event, before.times, before.network.period), clock_of(event, times, period)]
+            yield f"{names.event(event)}: {' to '.join(both)}" + (f" ({signed(moves[event])})" if event in moves else "")
+
+
+def clock_of(event: int, times: Mapping[int, int], period: int) -> str:
+    """The time of an event, where it has one."""
+    return clock(times[event], period) if event in times else "no time"
 
 
 def moved(old: int, new: int, period: int) -> int:

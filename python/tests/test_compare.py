@@ -5,7 +5,7 @@ from __future__ import annotations
 import unittest
 
 from pespbench import Activity, Bench, EventLabel, Labels
-from pespbench.compare import Side, compare, moved
+from pespbench.compare import Side, compare, compared, moved
 from tests.common import EXAMPLES, PROGRAM, Case
 
 
@@ -59,7 +59,32 @@ class Compare(Case):
         with Bench.open(folder / "activities", times=folder / "times", program=PROGRAM) as bench:
             before = Side.of(bench)
             bench.set_times({event: (time - 4) % 60 for event, time in bench.times.items()})
-            self.assertIn("Times\n  all 8 times moved by -4 minutes\n", compare(before, Side.of(bench)))
+            told = compare(before, Side.of(bench))
+            self.assertIn("Times\n  8 times that nothing holds, as of event 1, turned by +4 minutes to agree\n\n", told)
+            bench.time(3, 30)
+            told = compare(before, Side.of(bench))
+            self.assertIn("turned by +4 minutes to agree\n  event 3: :31 to :34 (+3 minutes)\n\n", told)
+            bench.window(5, 0, 59)
+            self.assertIn("Times\n  event 1: :03 to :59 (-4 minutes)\n", compare(before, Side.of(bench)))
+
+    def test_parts_turn_alone(self) -> None:
+        """Each part of the network by itself; an event alone is told as moved."""
+        script = "\n".join(["add event 1", "add event 2", "add event 3", "add event 4", "add event 5", "add activity 1 1 2 3 9 1", "add activity 2 4 3 3 9 1"])
+        with Bench.from_script(script, program=PROGRAM) as bench:
+            bench.set_times({1: 0, 2: 5, 3: 9, 4: 2, 5: 7})
+            before = Side.of(bench)
+            bench.set_times({1: 1, 2: 6, 3: 59, 4: 52, 5: 8})
+            rows = compared(before, Side.of(bench))["Times"]
+        wanted = ["2 times that nothing holds, as of event 1, turned by -1 minute to agree", "2 times that nothing holds, as of event 3, turned by +10 minutes to agree"]
+        self.assertEqual(rows, [*wanted, "event 5: :07 to :08 (+1 minute)"])
+
+    def test_all_moved(self) -> None:
+        """What is held is not turned."""
+        with Bench.from_script("add event 1\nadd event 2\nwindow 1 0 9\nadd activity 1 1 2 3 9 1", program=PROGRAM) as bench:
+            bench.set_times({1: 0, 2: 5})
+            before = Side.of(bench)
+            bench.set_times({1: 1, 2: 6})
+            self.assertEqual(compared(before, Side.of(bench))["Times"], ["all 2 times moved by +1 minute"])
 
     def test_side_is_a_copy(self) -> None:
         with Bench.open(EXAMPLES / "two-trains/activities", period=10, program=PROGRAM) as bench:
