@@ -27,6 +27,13 @@ class Parser(argparse.ArgumentParser):
         super().error(shown(message))
 
 
+def describe(subparsers: "argparse._SubParsersAction[Parser]") -> None:
+    """Has the help of each subcommand begin with what the list of subcommands says of it."""
+    for each in subparsers._choices_actions:
+        told = str(each.help)
+        subparsers.choices[each.dest].description = f"{told[0].upper()}{told[1:]}."
+
+
 def main(words: Optional[List[str]] = None) -> int:
     """Runs a subcommand, and gives the exit status.
 
@@ -38,6 +45,7 @@ def main(words: Optional[List[str]] = None) -> int:
     subparsers = parser.add_subparsers(required=True, metavar="SUBCOMMAND")
     for name in MODULES:
         import_module(f"pespbench.{name}").add_parser(subparsers)
+    describe(subparsers)
     chosen = parser.parse_args(words)
     is_leaving = False
     try:

@@ -7,6 +7,7 @@ import sys
 from typing import Optional, Tuple
 
 from pespbench.answers import Found, Stopped
+from pespbench.boards import timetable_text
 from pespbench.client import Bench
 from pespbench.ending import INTERRUPTS, status_of, uninterrupted
 from pespbench.faults import FileFault, PespbenchError
@@ -15,10 +16,9 @@ from pespbench.folders import own_file
 from pespbench.forms import add_form, in_form, table_of
 from pespbench.opening import add_network, open_network, seconds, whole
 from pespbench.parts import optimum_in_parts
-from pespbench.replies import text_of
 from pespbench.terminal import tell, write
 from pespbench.watching import Line, Watch
-from pespbench.wording import found_text
+from pespbench.wording import Names, found_text
 
 
 def add_parser(subparsers: "argparse._SubParsersAction[argparse.ArgumentParser]") -> None:
@@ -37,7 +37,7 @@ def add_parser(subparsers: "argparse._SubParsersAction[argparse.ArgumentParser]"
 
 
 def run(words: argparse.Namespace) -> int:
-    """Prints what is found as the program would; the exit status is 1 where no timetable was found.
+    """Prints what is found, by stations or as the program would; the exit status is 1 where no timetable was found.
 
     Raises what ended the search before its time, once what it had found is saved; an interrupt is told by the status.
     """
@@ -49,8 +49,9 @@ def run(words: argparse.Namespace) -> int:
             if words.save and found.cost is not None:
                 found = take_better(bench, found, words.save)
                 bench.save(words.save)
-            tell(in_form(words.form, table_of(found), text_of("optimum", found)))
-            if isinstance(found, Stopped):
+            told = in_form(words.form, table_of(found), timetable_text(found, Names(bench.labels, bench.network.activities), bench.period))
+            tell(told)
+            if isinstance(found, Stopped) and found_text(found) not in told:
                 write(f"{found_text(found)}\n", sys.stderr)
     if isinstance(ended, PespbenchError):
         raise ended

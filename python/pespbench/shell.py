@@ -1,4 +1,4 @@
-"""`shell`: the program at a terminal, with what the client adds: Ctrl-C keeps the network, `undo`, `redo`, `save`, `search`, `take`."""
+"""`shell`: the program at a terminal, with what the client adds: Ctrl-C keeps the network, Tab completes, and OWN has more words."""
 
 from __future__ import annotations
 
@@ -7,10 +7,14 @@ from contextlib import nullcontext
 from typing import Callable, Dict, List
 
 from pespbench.answers import Stopped
+from pespbench.boards import timetable_text
 from pespbench.client import Bench
 from pespbench.commands import SEARCHES
+from pespbench.completion import complete_by
 from pespbench.faults import text_of as fault_text
 from pespbench.given import Given
+from pespbench.helps import helps, text_of as helps_text
+from pespbench.helps.command import Latest
 from pespbench.mend import text_of as mended_text
 from pespbench.mending import mended
 from pespbench.opening import add_network, open_network, seconds
@@ -18,6 +22,7 @@ from pespbench.questions import Taken
 from pespbench.replies import text_of
 from pespbench.terminal import shown, tell
 from pespbench.watching import Line
+from pespbench.why import text_of as why_text, why
 from pespbench.wording import Names, found_text
 
 HELP = """Of the network, with E, I and J for events, A for an activity, and times in minutes:
@@ -37,13 +42,17 @@ Of this shell:
   search SECONDS                      searches for the best timetable
   mend SECONDS                        searches for the nearest one to the working timetable
   take                                makes the result of either the working timetable
+  why                                 why no timetable meets everything, and what mends it
+  helps SECONDS                       what one more minute at each activity would save
   times                               shows the working timetable
   undo, redo                          undoes the last accepted change; repeats it
   save FOLDER                         writes network, times and labels, to open again
   help; quit, exit or Ctrl-D          shows this; ends the shell
-Ctrl-C ends a long search, and no accepted change is lost.
+Ctrl-C ends a long search, and no accepted change is lost. Tab completes words and numbers.
 """
 ENDS = ("quit", "exit")
+# What may take long of what the shell adds.
+LONG = ("search", "why", "helps")
 
 
 def add_parser(subparsers: "argparse._SubParsersAction[argparse.ArgumentParser]") -> None:
@@ -61,6 +70,10 @@ class Desk:
         self.found: Taken = Stopped()
         self._undone: List[List[str]] = []
         self._journal: List[str] = []
+
+    def names(self) -> Names:
+        """The names of events and activities, as they are now."""
+        return Names(self.bench.labels, self.bench.network.activities)
 
     def undo(self) -> List[str]:
         """Undoes the last change, and returns its commands."""
@@ -89,6 +102,8 @@ def run(words: argparse.Namespace) -> int:
     given = Given()
     with open_network(words) as bench:
         desk = Desk(bench)
+        if given.is_typed:
+            complete_by(lambda: bench.network, (*OWN, *ENDS))
         tell("help tells the commands, quit ends\n" if given.is_typed else "")
         while True:
             try:
@@ -103,7 +118,7 @@ def run(words: argparse.Namespace) -> int:
 
 def is_left(desk: Desk, line: str, given: Given) -> bool:
     """Tells what there is to a line; whether the input has ended while it was searched for, so that nobody waits for it."""
-    searches = line.split()[0] in (*SEARCHES, "search")
+    searches = line.split()[0] in (*SEARCHES, *LONG)
     with given.kept_by(desk.bench._session.end) if searches else nullcontext() as ending:
         text = told(desk, line)
     if ending is not None and ending.has_come:
@@ -128,7 +143,8 @@ def answer(desk: Desk, line: str) -> str:
     return text_of(line, desk.bench.many([line])[0])
 
 
-def _limit(time: str) -> float:
+def limit_of(time: str) -> float:
+    """The seconds that a search has. Raises ValueError."""
     try:
         return seconds(time)
     except argparse.ArgumentTypeError as fault:
@@ -136,20 +152,21 @@ def _limit(time: str) -> float:
 
 
 def _mend(desk: Desk, time: str) -> str:
-    known = mended(desk.bench, seconds=_limit(time))
+    known = mended(desk.bench, seconds=limit_of(time))
     desk.found = known.near
     return mended_text(known, desk.bench)
 
 
 def _search(desk: Desk, time: str) -> str:
-    limit = _limit(time)
+    limit = limit_of(time)
     with Line() as line:
         try:
             found = desk.bench.search(limit, watch=line).found()
         except KeyboardInterrupt:
             found = line.best
     desk.found = found
-    return text_of("optimum", found) + (f"# {found_text(found)}\n" if isinstance(found, Stopped) else "")
+    told, sentence = timetable_text(found, desk.names(), desk.bench.period), found_text(found)
+    return told + (f"# {sentence}\n" if isinstance(found, Stopped) and sentence not in told else "")
 
 
 def _take(desk: Desk, _: str) -> str:
@@ -167,8 +184,24 @@ def _redo(desk: Desk, _: str) -> str:
     return "".join(f"# made again: {command}\n" for command in desk.redo())
 
 
+def _why(desk: Desk, _: str) -> str:
+    return why_text(why(desk.bench), desk.names())
+
+
+def _helps(desk: Desk, time: str) -> str:
+    limit, latest = limit_of(time), Latest()
+    try:
+        helps(desk.bench, seconds=limit, watch=latest)
+    except KeyboardInterrupt:
+        if latest.answer is None:
+            raise
+    finally:
+        latest.end()
+    return "" if latest.answer is None else helps_text(latest.answer, desk.names())
+
+
 def _times(desk: Desk, _: str) -> str:
-    names = Names(desk.bench.labels, desk.bench.network.activities)
+    names = desk.names()
     return "".join(f"{event} {time}  {names.event(event)}\n" for event, time in desk.bench.times.items())
 
 
@@ -182,6 +215,8 @@ def _save(desk: Desk, folder: str) -> str:
 OWN: Dict[str, Callable[[Desk, str], str]] = {
     "search": _search,
     "mend": _mend,
+    "why": _why,
+    "helps": _helps,
     "take": _take,
     "undo": _undo,
     "redo": _redo,

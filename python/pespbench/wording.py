@@ -112,14 +112,15 @@ class Names:
 
     def event(self, number: int) -> str:
         """An event in words."""
-        return event_name(self._named(number))
+        return event_name(self.named(number))
 
     def activity(self, number: int) -> str:
         """An activity in words, by the events that it leads from and to."""
         activity = self.activities[number]
         kind = NamedKind(number, shown(self.labels.kind(number)))
-        return activity_name(kind, self._named(activity.from_event), self._named(activity.to_event))
+        return activity_name(kind, self.named(activity.from_event), self.named(activity.to_event))
 
-    def _named(self, number: int) -> Named:
+    def named(self, number: int) -> Named:
+        """An event with its label, for a terminal."""
         label = self.labels.events.get(number, EventLabel())
         return Named(number, shown(label.line), shown(label.to), shown(label.station), shown(label.kind))

@@ -60,6 +60,16 @@ class Shell(Case):
         wanted += f"# taken back: span 1 3 4\nok\n{none}"
         self.assertEqual(called("shell", *TWO, given=lines), (0, wanted, ""))
 
+    def test_why_and_helps(self) -> None:
+        """They answer as the subcommands do, and change nothing."""
+        words = ["shell", str(EXAMPLES / "two-changes")]
+        told = called(*words, given="why\nundo\nspan 42 6 10\nhelps 100\nwhy\nhelps x\n")[1]
+        self.assertTrue(told.startswith("These 6 cannot be met together:\n"), told)
+        for text in ("anywhere on it that is not hard, such as turn at Dale", "\nthere is nothing to take back\nok\nThe best timetable as it is costs 300.\n"):
+            self.assertIn(text, told)
+        self.assertIn("\n3 of 3 activities were asked about, each with 1 minute more.\n", told)
+        self.assertTrue(told.endswith("so there is no conflict.\na search takes from 0 to 1,000,000 seconds, and not 'x'\n"), told)
+
     def test_words_that_end_it(self) -> None:
         for word in ("quit", "exit", " exit "):
             self.assertEqual(called("shell", *TWO, given=f"dump\n{word}\ncost\n")[:2], (0, called("shell", *TWO, given="dump\n")[1]))
@@ -69,6 +79,25 @@ class Shell(Case):
         for word in [*CHANGES, *BEGINNINGS, *OWN, "quit", "exit", "Ctrl-D"]:
             self.assertRegex(told, rf"(?m)[ ,]{word}\b")
         self.assertLessEqual(max(map(len, told.splitlines())), 100)
+
+    def test_completed_at_a_terminal(self) -> None:
+        """Tab completes a word and the number of an event."""
+        leader, follower = pty.openpty()
+        command = [sys.executable, "-m", "pespbench", "shell", *TWO]
+        environment = {**ENVIRONMENT, "TERM": "dumb", "INPUTRC": "/dev/null"}
+        process = subprocess.Popen(command, stdin=follower, stdout=follower, stderr=follower, env=environment, start_new_session=True)
+        os.close(follower)
+        try:
+            self.read_to(leader, "> ")
+            os.write(leader, b"add event 77\n")
+            self.read_to(leader, "ok")
+            os.write(leader, b"wind\t 7\t 3 1\ndom\t 7\t\nquit\n")
+            self.read_to(leader, "77: 3")
+            self.assertEqual(process.wait(LONG), 0)
+        finally:
+            process.kill()
+            process.wait()
+            os.close(leader)
 
     def test_stopped_in_a_sentence(self) -> None:
         """The reply is the program's, and a planner is told what it says."""
@@ -131,6 +160,18 @@ class Searching(Case):
             self.assertEqual(came, (0, "optimum 4 2\n1 0\n2 4\n", ""))
             self.assertEqual((Path(folder) / "times").read_text(), "event; time\n1; 0\n2; 4\n")
 
+    def test_by_stations(self) -> None:
+        """Where events have stations, the timetable is told by them, at a prompt too; other forms are for programs."""
+        labels = self.folder / "labels"
+        labels.write_text("event; line; to; station; kind\n1; M; Dale; Benton; departure\n2; M; Dale; Ashford; pass\n")
+        words, given = [*TWO, "--labels", str(labels)], "search 9\nadd event 3\ntime 1 0\ntime 2 4\ntime 3 9\nsearch 0\n"
+        boards = "\nAshford\n  :04  M to Dale pass\n\nBenton\n  :00  M to Dale leaves\n"
+        best = f"The best timetable costs 4.\n{boards}"
+        self.assertEqual(called("search", *words), (0, best, ""))
+        self.assertEqual(called("search", *words, "--csv"), called("search", *TWO, "--csv"))
+        told = f"A timetable that meets everything costs 4; whether there is a better one is undecided.\n{boards}\nat no station\n  :09  event 3\n"
+        self.assertEqual(called("shell", *words, given=given), (0, best + 4 * "ok\n" + told, ""))
+
     def test_nothing_found(self) -> None:
         tight = self.folder / "activities"
         tight.write_text("1; 1; 2; 3; 3; 1\n2; 2; 1; 3; 3; 1\n")
@@ -143,12 +184,14 @@ class Faults(Case):
 
     def test_told(self) -> None:
         table: List[Tuple[List[str], int, str]] = [
-            (["search", "none"], 1, "pespbench: activities file cannot be read\n"),
+            (["search", "none"], 1, "pespbench: activities file none cannot be read. There is no such file.\n"),
             (["search", str(self.folder)], 1, f"pespbench: there is no file {self.folder}/period\n"),
             (["search", *TWO, "--program", "none"], 1, "pespbench: there is no program none;"),
             (["search", *TWO, "--labels", str(self.folder)], 1, f"pespbench: {self.folder} is a folder, and no file\n"),
             (["search", *TWO, "--labels", f"{TWO[-1]}/x"], 1, f"pespbench: {TWO[-1]}/x is below what is no folder\n"),
             (["report", *TWO, "--output", str(self.folder)], 1, f"pespbench: {self.folder} is a folder, and no file\n"),
+            (["report", *TWO, "--output", f"{self.folder}/none/x"], 1, f"pespbench: {self.folder}/none/x is below what is no folder\n"),
+            (["report", *TWO, "--output", 300 * "x"], 1, f"pespbench: {300 * 'x'} is too long a name\n"),
             ([], 2, "usage:"),
             (["searches"], 2, "usage:"),
         ]
@@ -157,6 +200,12 @@ class Faults(Case):
             self.assertEqual((came[0], came[1]), (status, ""))
             self.assertTrue(came[2].startswith(text), came[2])
         self.assertEqual(called("--help")[0], 0)
+
+    def test_help_of_each(self) -> None:
+        """It begins with what the subcommand is for."""
+        for name in ("why", "draw", "to-lintim"):
+            with self.subTest(name=name):
+                self.assertRegex(called(name, "--help")[1], r"\n\n[A-Z][^\n]+[.]\n\npositional arguments:")
 
 
 if __name__ == "__main__":
