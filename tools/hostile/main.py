@@ -74,7 +74,7 @@ def main(words: Optional[Sequence[str]]) -> int:
     parser.add_argument("--all", action="store_true", help="try each request and call of large inputs too")
     parser.add_argument("--only", action="append", choices=PARTS, help="run this part alone")
     parser.add_argument("--jobs", type=int, default=len(os.sched_getaffinity(0)), help="how many run side by side")
-    parser.add_argument("program", nargs="?", type=pathlib.Path, default=PROGRAM)
+    parser.add_argument("program", nargs="?", type=pathlib.Path, default=PROGRAM, help="the program [default: the built one]")
     chosen = parser.parse_args(words)
     chosen.program = chosen.program.absolute()
     if not os.access(chosen.program, os.X_OK):

@@ -1,6 +1,7 @@
 """Every tool says what it is for, refuses what it does not know, and does nothing else then."""
 
 import os
+import re
 import shutil
 from pathlib import Path
 from typing import Dict, List
@@ -16,6 +17,14 @@ TOOLCHAIN = '#!/bin/sh\n[ "$1" = doc ] || [ "$1" = version ] || touch "$ASKED"\n
 def tools() -> List[Path]:
     """The files of tools/ that are started by their name."""
     return sorted(path for path in TOOLS.iterdir() if path.is_file() and os.access(path, os.X_OK))
+
+
+def unexplained(told: str) -> List[str]:
+    """The words and options that a help of argparse lists without a text, beside them or below them, and what it lacks before them."""
+    head, *lists = re.split(r"\n(?:positional arguments|options):\n", told)
+    entries = [entry for part in lists for entry in re.split(r"\n  (?=\S)", f"\n{part.rstrip()}")[1:]]
+    bare = [entry for entry in entries if not re.search(r"\S(  +|\n +)\S", entry)]
+    return bare + (["what it is for"] if lists and not re.search(r"^[A-Z][^\n]*(\n[^\n]+)*[.]$", head, re.MULTILINE) else [])
 
 
 def surroundings(suite: Suite, home: Path) -> Dict[str, str]:
@@ -39,8 +48,9 @@ def helping(suite: Suite) -> None:
             continue
         for option in ["--help", "-h"]:
             came = run([path, option], env=env, cwd=home)
-            wanted = {"status": 0, "usage": True, "standard error": b""}
-            suite.note(f"tools/{path.name} {option}", wanted, {**came, "usage": b"sage: " in came["standard output"]})
+            wanted = {"status": 0, "usage": True, "standard error": b"", "unexplained": []}
+            told = {"usage": b"sage: " in came["standard output"], "unexplained": unexplained(came["standard output"].decode())}
+            suite.note(f"tools/{path.name} {option}", wanted, {**came, **told})
         for option in ["-x", "--no-such-option"]:
             wanted = {"status": 2, "standard output": b"", "standard error": SOME}
             suite.note(f"tools/{path.name} {option}", wanted, run([path, option], env=env, cwd=home))
