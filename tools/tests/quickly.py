@@ -12,7 +12,7 @@ import time
 from concurrent.futures import ThreadPoolExecutor, as_completed
 from functools import partial
 from pathlib import Path
-from typing import Callable, List, NamedTuple, Sequence, Tuple
+from typing import Callable, Collection, List, NamedTuple, Sequence, Tuple
 
 from page_tests.browser import found as browser
 from tests import main as whole
@@ -32,6 +32,9 @@ LONGEST = ["the program's rows and streams", "the page in a browser", "python_wh
 LONGEST += ["python_variants", "python_files", "damaged_files", "pesp_tests_core", "drawn_streams"]
 # What some groups want beside Node.
 MORE = {"python_browser": "browser"}
+# The Debian packages of what parts want, and of what some cases of a whole run want, which are left out without it.
+PACKAGES = {"node": "nodejs", "browser": "chromium"}
+OF_CASES = {"mypy": "mypy", "pyflakes3": "pyflakes3", "tsc": "node-typescript", "eslint": "eslint", "gcc": "gcc", "wasm2c": "wabt"}
 COUNTS = re.compile(r"(\d+) passed(?:, (\d+) failed)?")
 
 
@@ -107,6 +110,14 @@ def timed(part: Part) -> Tuple[int, int, str, float]:
     return passed, failed, output, time.monotonic() - began
 
 
+def set_up(wanted: Collection[str], is_whole: bool) -> None:
+    """Installs the commands that are missing, where that is allowed, or names their packages."""
+    commands = {each: package for each, package in PACKAGES.items() if each in wanted and not is_there(each)}
+    for command, package in {**commands, **(OF_CASES if is_whole else {})}.items():
+        name = package if command == "browser" else command
+        subprocess.run([TOP / "tools/packing/want", name, package, "tools/test"], check=False)
+
+
 def run_all(chosen: Sequence[Part], jobs: int) -> Tuple[int, int]:
     passed = failed = 0
     with ThreadPoolExecutor(jobs) as threads:
@@ -135,7 +146,7 @@ def of_parts(words: argparse.Namespace, known: Sequence[Part]) -> int:
         print("\n".join(part.name for part in known))
         return 0
     print("tools/test: nothing is proved here; .ci/run proves everything", flush=True)
-    subprocess.run([TOP / "tools/packing/want", "node", "nodejs"], check=False)
+    set_up({each for part in known for each in part.wants}, not words.only)
     missing = [wanted for wanted in sorted({each for part in known for each in part.wants}) if not is_there(wanted)]
     there = [part for part in known if not set(part.wants) & set(missing)]
     passed, failed = run_all(there, max(1, words.jobs))
@@ -144,3 +155,7 @@ def of_parts(words: argparse.Namespace, known: Sequence[Part]) -> int:
     print("tools/test: nothing of this was proved")
     print(f"{passed} passed, {failed} failed")
     return int(failed > 0 or not there)
+
+
+if __name__ == "__main__":
+    sys.exit(main(sys.argv[1:]))

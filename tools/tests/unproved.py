@@ -1,9 +1,10 @@
 """The script that starts the program, where it is asked to make one without a proof; the stand-in answers."""
 
 import os
+import shutil
 import subprocess
 import sys
-from typing import Any, List, Sequence
+from typing import Any, Dict, List, Sequence
 
 from tests.file_cases import TWO
 from tests.harness import TOP, Suite, run
@@ -110,4 +111,33 @@ def wanted_commands(suite: Suite) -> None:
     suite.note("who installs it", {"calls": calls}, {"calls": (fake / "apt").read_text().splitlines()})
 
 
-GROUPS = [unproved, unproved_lines, wanted_commands]
+def bare(suite: Suite, *hidden: str) -> Dict[str, str]:
+    """An environment of the commands that a Debian has from the first, and no others, and of a user who may not install any."""
+    folder = suite.folder / "-".join(["bare", *hidden])
+    folder.mkdir()
+    for name in {"sh", "cat", "dirname", "env", "readlink", "python3"} - set(hidden):
+        found = shutil.which(name)
+        assert found is not None
+        (folder / name).symlink_to(found)
+    (folder / "id").write_text("#!/bin/sh\necho 1000\n")
+    (folder / "id").chmod(0o755)
+    return {"PATH": str(folder)}
+
+
+def first_commands(suite: Suite) -> None:
+    """The two commands at the top of README name what they lack, where nothing may be installed."""
+    come = run([TOP / "tools/pespbench", "--module"], env=bare(suite), given=b"domains\n")
+    told = b"tools/pespbench: the page's module runs, under Node: nothing of what it answers is proved\n"
+    told += b"tools/pespbench: there is no command node (apt install nodejs)\n"
+    suite.note("tools/pespbench --module without Node", {"status": 70, "standard output": b"", "standard error": told}, come)
+    come = run([TOP / "tools/test"], env=bare(suite, "python3"))
+    told = b"tools/test: there is no command python3 (apt install python3)\n"
+    suite.note("tools/test without Python", {"status": 70, "standard output": b"", "standard error": told}, come)
+    come = run([TOP / "tools/test", "--only", "helping_start"], env={**bare(suite, "node"), "HOME": str(suite.folder)})
+    told = b"tools/test: there is no command node (apt install nodejs)\n"
+    lines = b"tools/test: there is no node, so 1 parts were not tried\ntools/test: nothing of this was proved\n0 passed, 0 failed\n"
+    wanted = {"status": 1, "standard error": told, "ends": lines}
+    suite.note("tools/test without Node", wanted, {**come, "ends": come["standard output"][-len(lines):]})
+
+
+GROUPS = [unproved, unproved_lines, wanted_commands, first_commands]
