@@ -14,6 +14,8 @@ from pespbench.faults import FileFault
 Path = Union[str, "os.PathLike[str]"]
 MARK = b"\xef\xbb\xbf"
 LONGEST_FILE = 67_108_864
+# What is said of a row that the reader of tables does not take.
+UNCUT = "it cannot be cut into fields: a field is too long, or a quote is missing"
 # So many records are cut before the first of them is given.
 AT_ONCE = 1_000
 

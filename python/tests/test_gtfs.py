@@ -97,6 +97,13 @@ class Feeds(Case):
         self.assertRaisesRegex(FileFault, "there is no stop 'B'", read_feed, self.feed(stops=STOPS.replace("\nB,", "\nE,").replace(",B\n", ",A\n")))
         (self.folder / "feed/trips.txt").unlink()
         self.assertRaisesRegex(FileFault, "there is no trips.txt", read_feed, self.folder / "feed")
+        self.assertRaisesRegex(FileFault, "routes.txt, record 1: it cannot be cut into fields", read_feed, self.feed(routes="x" * 200_000))
+        with zipfile.ZipFile(self.folder / "damaged", "w") as written:
+            for name, text in FEED.items():
+                written.writestr(f"{name}.txt", text)
+        data = (self.folder / "damaged").read_bytes()
+        (self.folder / "damaged").write_bytes(data.replace(b"Cranley", b"Cranlex", 1))
+        self.assertRaisesRegex(FileFault, "damaged: [a-z_]+.txt in it is damaged, or packed", read_feed, self.folder / "damaged")
         (self.folder / "file").write_text("x")
         self.assertRaisesRegex(FileFault, "neither a folder nor a zip archive", read_feed, self.folder / "file")
         self.assertRaises(OSError, read_feed, self.folder / "missing")

@@ -167,6 +167,12 @@ class LinTimFiles(Case):
                 self.read()
             self.assertEqual((caught.exception.path, caught.exception.record), (str(self.paths["activities"]), record))
 
+    def test_no_text_and_no_table(self) -> None:
+        """What Python says of a damaged file is told in other words."""
+        for data, wanted in {b"1; drive; \xff\n": "it is not in UTF-8", b"1; " + 200_000 * b"x": "it cannot be cut into fields"}.items():
+            self.paths["activities"].write_bytes(data)
+            self.assertRaisesRegex(FileFault, f"activities.giv, record 1: {wanted}", self.read)
+
     def test_passengers_that_are_no_weight(self) -> None:
         for passengers in ("-1", "2000000000", "1e-12", "500000000.25", "1e9999999", "1e-9999999", "1." + "0" * 80 + "1"):
             self.paths["activities"].write_text(f"1; drive; 1; 2; 3; 4; {passengers}\n")

@@ -13,7 +13,7 @@ from typing import Iterator, Mapping, Optional, Sequence
 
 from pespbench.faults import FileFault
 from pespbench.folders import own_file
-from pespbench.records import LONGEST_FILE, MARK, content
+from pespbench.records import LONGEST_FILE, MARK, UNCUT, content
 
 TIME = re.compile("([0-9]{1,2}):([0-5][0-9]):([0-5][0-9])")
 
@@ -82,8 +82,8 @@ class Tables:
                 raise FileFault(path, 1, f"there is no column {missing[0]}")
             for row in reader:
                 yield Row(path, reader.line_num, row)
-        except csv.Error as fault:
-            raise FileFault(path, reader.line_num, str(fault)) from None
+        except csv.Error:
+            raise FileFault(path, max(1, reader.line_num), UNCUT) from None
 
     def _content(self, name: str) -> Optional[bytes]:
         """The bytes of a file of the feed, or None where there is none."""
@@ -95,8 +95,8 @@ class Tables:
                 data = file.read(LONGEST_FILE + 1)
         except KeyError:
             return None
-        except (zipfile.BadZipFile, NotImplementedError, RuntimeError) as fault:
-            raise FileFault(str(self._path), None, f"{name}: {fault}") from None
+        except (zipfile.BadZipFile, NotImplementedError, RuntimeError):
+            raise FileFault(str(self._path), None, f"{name} in it is damaged, or packed with a password or in another way than zip does") from None
         if len(data) > LONGEST_FILE:
             raise FileFault(str(self._path), None, f"{name} is too long")
         return data[len(MARK) :] if data.startswith(MARK) else data

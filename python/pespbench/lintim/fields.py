@@ -11,7 +11,7 @@ from pathlib import Path
 from typing import Iterator, List, Mapping, Optional, Sequence
 
 from pespbench.faults import FileFault
-from pespbench.records import content
+from pespbench.records import UNCUT, content
 
 MOST_DIGITS = 9
 # Columns are named in one of the first lines, among so many.
@@ -90,8 +90,10 @@ def lines_of(path: Path, least: int, titles: Optional[Mapping[str, str]] = None)
                 raise FileFault(str(path), reader.line_num, f"wanted {least} fields")
             else:
                 yield Line(path, reader.line_num, [fields[place] for place in order] or fields)
-    except (UnicodeDecodeError, csv.Error) as fault:
-        raise FileFault(str(path), reader.line_num + 1, str(fault)) from None
+    except UnicodeDecodeError:
+        raise FileFault(str(path), reader.line_num + 1, "it is not in UTF-8") from None
+    except csv.Error:
+        raise FileFault(str(path), reader.line_num, UNCUT) from None
 
 
 def order_of(comment: Sequence[str], titles: Mapping[str, str]) -> List[int]:

@@ -35,8 +35,8 @@ def page_text() -> str:
     """The text of the page. Raises NoPage."""
     try:
         return page_path().read_text(encoding="utf-8")
-    except (OSError, UnicodeDecodeError) as fault:
-        raise NoPage(f"the page {page_path()} cannot be read: {fault}") from None
+    except (OSError, UnicodeDecodeError):
+        raise NoPage(f"the page {page_path()} cannot be read, or is no text") from None
 
 
 def page_path() -> Path:
