@@ -52,7 +52,7 @@ Ctrl-C ends a long search, and no accepted change is lost. Tab completes words a
 """
 ENDS = ("quit", "exit")
 # What may take long of what the shell adds.
-LONG = ("search", "why", "helps")
+LONG = ("search", "mend", "why", "helps")
 
 
 def add_parser(subparsers: "argparse._SubParsersAction[argparse.ArgumentParser]") -> None:
