@@ -4,11 +4,12 @@ import base64
 import hashlib
 import pathlib
 import re
-from typing import Match, Set
+import shutil
+from typing import Callable, Dict, Match, Set
 
 from paging.modules import joined, scripts
 from paging.packing import unpacked
-from paging.tree import NotMade
+from paging.tree import NotMade, run
 
 LINE = re.compile(r"^[ \t]*<!-- (?:(style|script|modules): (\S+)|(module)) -->[ \t]*$", re.M)
 # A script that runs; one of modules says which is the last of them.
@@ -27,24 +28,36 @@ def unindented(text: str) -> str:
     return re.sub(r"^\s+", "", text, flags=re.M)
 
 
-def without_comments(text: str) -> str:
-    """A style or script without the comments that have lines of their own; no text in it may have such lines."""
-    return COMMENT.sub("", text)
+def short_style(text: str) -> str:
+    """A style without the comments that have lines of their own; no text in it may have such lines."""
+    return unindented(COMMENT.sub("", text))
 
 
-def fitting(name: str, text: str) -> str:
+def short_script(text: str) -> str:
+    """A script without comments and needless blanks; its names stay. Raises NotMade."""
+    if not shutil.which("esbuild"):
+        raise NotMade("there is no esbuild (Debian's package esbuild)")
+    words = ["esbuild", "--minify-whitespace", "--charset=utf8", "--legal-comments=none", "--log-level=warning"]
+    return run(words, input=text.encode()).decode()
+
+
+SHORT: Dict[str, Callable[[str], str]] = {"style": short_style, "script": short_script}
+
+
+def fitting(kind: str, name: str, text: str) -> str:
     """A style or script of the page, which can stand inside of it."""
+    short = SHORT[kind](text)
     for word in BREAKS:
-        if word in text.lower():
+        if word in text.lower() or word in short.lower():
             raise NotMade(f"page/{name} has {word}, which would end it inside of a page")
-    return unindented(without_comments(text))
+    return short
 
 
-def source(folder: pathlib.Path, name: str) -> str:
+def source(folder: pathlib.Path, kind: str, name: str) -> str:
     path = (folder / name).resolve()
     if folder.resolve() not in path.parents or not path.is_file():
         raise NotMade(f"page/index.html names {name}, which is no file of page/")
-    return fitting(name, path.read_text())
+    return fitting(kind, name, path.read_text())
 
 
 def part(folder: pathlib.Path, found: Match[str], module: str, there: Set[str]) -> str:
@@ -54,8 +67,9 @@ def part(folder: pathlib.Path, found: Match[str], module: str, there: Set[str]) 
     if is_module:
         return f'<script>const PESPBENCH_MODULE = "{module}";</script>'
     if kind == "modules":
-        return f"<script data-modules={name}>\n{fitting(f'script/{name}.js, or what it imports,', joined(scripts(folder / 'script'), name, there))}</script>"
-    return f"<{kind}>\n{source(folder, name)}</{kind}>"
+        text = joined(scripts(folder / "script"), name, there)
+        return f"<script data-modules={name}>\n{fitting('script', f'script/{name}.js, or what it imports,', text)}</script>"
+    return f"<{kind}>\n{source(folder, kind, name)}</{kind}>"
 
 
 def named(script: str) -> str:

@@ -38,14 +38,14 @@ p { margin: 0 }
 <p>A <!-- comment --> stays.</p>
 <script>const PESPBENCH_MODULE = "V@NE{1po";</script>
 <script>
-'use strict';
+"use strict";
 </script>
 """
 MODULE = b"\0asm"
 # Node's deflate has 63 48 2c ce 05 00 for it: the digits 31 77 23 14 81, and of what is left 1 51 50.
 PACKED = "V@NE{1po"
 # By openssl, of each of the two scripts.
-NAMES = ["sha256-hT+tTpMv85LFqUQAQLIj9xrWYS+kTjHFpIe3GcaLvLc=", "sha256-YZwKaVawabDNvmVDMcSnBHe0D1Gx5K61vcyoQEpD0nk="]
+NAMES = ["sha256-hT+tTpMv85LFqUQAQLIj9xrWYS+kTjHFpIe3GcaLvLc=", "sha256-UMiZTiQr0FF55ddnk1Z5lOwLZaLuS6v607IsXWuuzbo="]
 
 
 def sources(suite: Suite, name: str, **changed: str) -> Path:
@@ -57,6 +57,14 @@ def sources(suite: Suite, name: str, **changed: str) -> Path:
         (folder / path).parent.mkdir(exist_ok=True)
         (folder / path).write_text(text)
     return folder
+
+
+def has_esbuild() -> bool:
+    """Whether pages can be made; if not, it says so."""
+    found = shutil.which("esbuild") is not None
+    if not found:
+        print("  no page was made: esbuild is not installed")
+    return found
 
 
 def refused(folder: Path) -> str:
@@ -75,6 +83,8 @@ def module_or_fault(text: str) -> Union[bytes, str]:
 
 def page(suite: Suite) -> None:
     """A page has its styles, scripts and module in it, and its policy lets just these scripts run."""
+    if not has_esbuild():
+        return
     came = refused(sources(suite, "plain"))
     told = re.search(r'content="([^"]*)"', came)
     assert told is not None
@@ -108,9 +118,10 @@ def by_script(digits: List[str]) -> List[bytes]:
     return list(map(bytes, json.loads(subprocess.run(words, capture_output=True, text=True, check=True).stdout)))
 
 
-def made_without_zopfli(given: Path) -> str:
+def made_with(given: Path, path: Path) -> str:
+    """What is told where a page is made anew of a module or a page, with the commands of a folder alone."""
     words = [sys.executable, str(TOP / "tools/page"), "--check", "--with", str(given)]
-    return subprocess.run(words, capture_output=True, text=True, check=False, env={"PATH": ""}).stdout
+    return subprocess.run(words, capture_output=True, text=True, check=False, env={"PATH": str(path)}).stdout
 
 
 def page_packing(suite: Suite) -> None:
@@ -126,10 +137,17 @@ def page_packing(suite: Suite) -> None:
         suite.note("a module", {"text": PACKED, "again": MODULE}, {"text": packed(MODULE), "again": unpacked(packed(MODULE))})
     wasm = suite.folder / "short.wasm"
     wasm.write_bytes(MODULE)
-    came = made_without_zopfli(wasm)
+    commands = suite.folder / "commands"
+    commands.mkdir()
+    came = made_with(wasm, commands)
     suite.holds(f"a module without zopfli: {came}", "there is no zopfli (Debian's package zopfli)" in came)
-    came = made_without_zopfli(MADE)
-    suite.holds(f"a page without zopfli: {came}", came.endswith("1 passed, 0 failed\n"))
+    came = made_with(MADE, commands)
+    suite.holds(f"a page without esbuild: {came}", "there is no esbuild (Debian's package esbuild)" in came)
+    esbuild = shutil.which("esbuild")
+    if esbuild:
+        (commands / "esbuild").symlink_to(esbuild)
+        came = made_with(MADE, commands)
+        suite.holds(f"a page without zopfli: {came}", came.endswith("1 passed, 0 failed\n"))
 
 
 # Modules of which the first one stands on both others, and the second on the third.
@@ -140,28 +158,10 @@ MODULES = {
     "script__third_js": "const number = 3;\n\nexport class Three {\n  get number() { return number; }\n}\n",
 }
 MADE_OF_MODULES = """<script data-modules=third>
-'use strict';
-const PESPBENCH = {};
-PESPBENCH.third = (() => {
-const number = 3;
-class Three {
-get number() { return number; }
-}
-return { Three };
-})();
+"use strict";const PESPBENCH={};PESPBENCH.third=(()=>{const number=3;class Three{get number(){return number}}return{Three}})();
 </script>
 <script data-modules=first>
-'use strict';
-PESPBENCH.second = (() => {
-const { Three } = PESPBENCH.third;
-const two = () => new Three().number - 1;
-return { two };
-})();
-PESPBENCH.first = (() => {
-const { two } = PESPBENCH.second;
-const { Three } = PESPBENCH.third;
-globalThis.told = [two(), new Three().number]; // Here.
-})();
+"use strict";PESPBENCH.second=(()=>{const{Three}=PESPBENCH.third;const two=()=>new Three().number-1;return{two}})();PESPBENCH.first=(()=>{const{two}=PESPBENCH.second;const{Three}=PESPBENCH.third;globalThis.told=[two(),new Three().number]})();
 </script>
 """
 
@@ -173,8 +173,10 @@ def ran(scripts: List[str]) -> Any:
 
 
 def page_scripts(suite: Suite) -> None:
-    """Modules are put in order into scripts that run, whose names are in the policy, without comments that have lines of their own;
-    what is no such module is refused."""
+    """Modules are put in order into scripts that run, whose names are in the policy, without comments and needless blanks; what is
+    no such module is refused."""
+    if not has_esbuild():
+        return
     came = refused(sources(suite, "modules", index_html=OF_MODULES, **MODULES))
     suite.note("modules", {"scripts": MADE_OF_MODULES}, {"scripts": came[came.find("<script data-modules") :]})
     flat = {key: text.replace("./third.js", "./parts/third.js") for key, text in MODULES.items()}
