@@ -1,4 +1,4 @@
-"""A timetable turned to agree with another one, as the page turns it (page/script/turning.js).
+"""A timetable turned to agree with another one, as the page turns it (page/script/base/turning.js).
 
 Where nothing of a part of the network is held, all of that part may be later by as many minutes, at the same cost.
 """

@@ -15,12 +15,16 @@ const turnOf = (part, times, shown, period) => {
   return [...votes].reduce((best, each) => each[1] > best[1] || (each[1] === best[1] && far(each[0]) < far(best[0])) ? each : best, [0, 0])[0];
 };
 
+// The parts of a network that nothing holds and whose times are not as shown, each with the minutes by which it is turned to agree.
+export const turnsOf = ({ events, activities, windows, period }, times, shown) => [...partsOf(events, activities.values())].flatMap(part => {
+  const timed = part.filter(event => times.has(event)).sort((one, other) => one - other);
+  const turn = part.some(event => windows.has(event)) ? 0 : turnOf(timed, times, shown, period);
+  return turn ? [{ events: timed, turn }] : [];
+});
+
 // Times of all events, turned part by part to agree with those that are shown.
 export const turned = (times, { network, times: shown }) => {
-  const made = new Map(times), { period, windows } = network;
-  for (const part of partsOf(network.events, network.activities.values())) {
-    const turn = part.some(event => windows.has(event)) ? 0 : turnOf(part, times, shown, period);
-    if (turn) for (const event of part) made.set(event, (times.get(event) + turn) % period);
-  }
+  const made = new Map(times);
+  for (const { events, turn } of turnsOf(network, times, shown)) for (const event of events) made.set(event, (times.get(event) + turn) % network.period);
   return made;
 };

@@ -1,6 +1,7 @@
 // What two networks with their timetables differ in, in the words of the Python package's `compare`: network, times, cost by kind.
 
 import { noLabels } from '../base/labels.js';
+import { turnsOf } from '../base/turning.js';
 import { activityName, clock, eventName, lengthText, minutesText, spanMinutes, spanText, windowText } from './names.js';
 import { within } from './shown.js';
 
@@ -41,9 +42,9 @@ const movedBy = (old, now, period) => {
 };
 
 // The same for all events of trains: what moves with a train's first moved event is told the way round that it went.
-const movesOf = (before, after, shared) => {
-  const { period } = after.network, moves = new Map(shared.map(event => [event, movedBy(before.times.get(event), after.times.get(event), period)]));
-  for (const { events } of after.trains) {
+const movesOf = (old, now, { network: { period }, trains }) => {
+  const shared = [...now.keys()].filter(event => old.has(event)), moves = new Map(shared.map(event => [event, movedBy(old.get(event), now.get(event), period)]));
+  for (const { events } of trains) {
     const lead = events.map(event => moves.get(event)).find(Boolean) || 0;
     for (const event of events.filter(each => moves.has(each))) {
       const minutes = moves.get(event), off = minutes - lead;
@@ -55,18 +56,27 @@ const movesOf = (before, after, shared) => {
 
 const signed = minutes => `${minutes > 0 ? '+' : '−'}${minutesText(Math.abs(minutes))}`;
 
-const timeOf = ({ times }, event) => times.has(event) ? clock(times.get(event)) : 'no time';
+const timeOf = (times, event) => times.has(event) ? clock(times.get(event)) : 'no time';
 
-// The times that are other, or that all of them moved alike.
-const timeChanges = (before, after) => {
-  const shared = [...after.times.keys()].filter(event => before.times.has(event));
-  const moves = movesOf(before, after, shared);
-  const [first = 0] = moves.values();
-  if (first && moves.size > 1 && [...moves.values()].every(each => each === first)) return [{ text: `all ${moves.size} times moved by ${signed(first)}` }];
-  return both(before.times.keys(), after.times.keys()).filter(event => moves.get(event) !== 0).map(event => {
-    const by = moves.has(event) ? ` (${signed(moves.get(event))})` : '';
-    return { event, text: `${eventName(event)}: ${timeOf(before, event)} to ${timeOf(after, event)}${by}` };
+// The times after the change, where what nothing holds is turned to agree with those before, and what was turned.
+const turnedAfter = (before, { network, times }) => {
+  const { period } = network, isAlike = before.network.period === period, made = new Map(times);
+  const turns = isAlike ? turnsOf(network, times, before.times).filter(({ events }) => events.length > 1) : [];
+  const texts = turns.map(({ events, turn }) => {
+    for (const event of events) made.set(event, (times.get(event) + turn) % period);
+    return { event: events[0], text: `${events.length} times that nothing holds, as of ${eventName(events[0])}, turned by ${signed(movedBy(0, turn, period))} to agree` };
   });
+  return { made, texts };
+};
+
+// The times that are other, or that all of them moved alike; what nothing holds is turned to agree first.
+const timeChanges = (before, after) => {
+  const old = before.times, { made, texts } = turnedAfter(before, after), moves = movesOf(old, made, after), [first = 0] = moves.values();
+  if (first && moves.size > 1 && [...moves.values()].every(each => each === first)) return [...texts, { text: `all ${moves.size} times moved by ${signed(first)}` }];
+  return [...texts, ...both(old.keys(), made.keys()).filter(event => moves.get(event) !== 0).map(event => {
+    const by = moves.has(event) ? ` (${signed(moves.get(event))})` : '';
+    return { event, text: `${eventName(event)}: ${timeOf(old, event)} to ${timeOf(made, event)}${by}` };
+  })];
 };
 
 // What the activities of each kind cost together.
