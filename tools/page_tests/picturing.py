@@ -187,7 +187,7 @@ def of_the_map(suite: Suite, page: Hands) -> None:
     moved = page.ask(f"document.querySelector('{station}').getBoundingClientRect().left + document.querySelector('{station}').getBoundingClientRect().width / 2") - at[0]
     suite.note("a drag", {"by": -80, "corridor": []}, {"by": round(moved), "corridor": page.ask("Page.corridor.stations")})
     page.show(large.texts(6))
-    page.frame()
+    page.drawn()
     page.press("zoom-all")
     page.frame()
     room = page.ask("[Page.find('netgraph').clientWidth, Page.find('netgraph').clientHeight]")

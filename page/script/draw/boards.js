@@ -9,7 +9,8 @@ import { labelOf } from '../session/names.js';
 import { shown } from '../session/shown.js';
 import { isTab, showTab } from '../session/tabs.js';
 
-let chosen = '';
+// The station that is shown, and that whose name was clicked last.
+let chosen = '', clicked = '';
 
 const showBoard = station => {
   if (!station) return;
@@ -37,7 +38,9 @@ export const boardsPanel = {
 export const startBoards = () => {
   fillFinder(find('board-station'), { label: 'Station', hint: 'a name', search: text => matches(text, ['station']), take: ({ value }) => showBoard(value) });
   find('to-board').addEventListener('click', showBoardHere);
-  document.addEventListener('dblclick', event => showBoard(namedBy(event.target)));
+  // A first click may move what is drawn.
+  document.addEventListener('click', ({ detail, target }) => { if (detail < 2) clicked = namedBy(target); }, true);
+  document.addEventListener('dblclick', () => showBoard(clicked));
   window.addEventListener('keydown', ({ key, ctrlKey, metaKey, altKey, target }) => {
     if (key === 'b' && !(ctrlKey || metaKey || altKey || isField(target) || document.querySelector('dialog[open]'))) showBoardHere();
   });
