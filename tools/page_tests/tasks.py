@@ -74,7 +74,7 @@ Way = Callable[[Steps], object]
 
 def told() -> Dict[str, List[int]]:
     """The steps that the document tells, of each task by a mouse and by keys."""
-    rows = re.findall(r"^\| ([^|]+) \| (\d+) \| (\d+) \|$", (TOP / "page/README.md").read_text(), re.M)
+    rows = re.findall(r"^\|([^|]+)\|(\d+)\|(\d+)\|$", (TOP / "page/README.md").read_text(), re.M)
     return {task: [int(mouse), int(keys)] for task, mouse, keys in rows}
 
 
