@@ -16,14 +16,14 @@ TEXTS = """[document.body.innerText, ...[...document.querySelectorAll('[title], 
 
 
 def legend(suite: Suite, page: Hands) -> None:
-    """At the top each mark is shown with its name, on a wide screen and on a small one."""
+    """At the bottom each mark is shown with its name, on a wide screen and on a small one."""
     page.again()
     for width, height in [(1360, 850), (390, 800)]:
         page.resize(width, height)
         names = page.ask("[...document.querySelectorAll('#legend li')].map(each => each.textContent)")
         suite.note(f"{width} points", {"they": ["possible", "held", "time", "slack", "headway", "not met"]}, {"they": names})
         places = page.ask("[...document.querySelectorAll('#legend svg, #events')].map(each => each.getBoundingClientRect().top)")
-        suite.holds("they stand above the events", max(places[:-1]) < places[-1])
+        suite.holds("they stand below the events", min(places[:-1]) > places[-1])
     page.resize(1440, 900)
 
 
