@@ -23,7 +23,7 @@ def legend(suite: Suite, page: Hands) -> None:
         names = page.ask("[...document.querySelectorAll('#legend li')].map(each => each.textContent)")
         suite.note(f"{width} points", {"they": ["possible", "held", "time", "slack", "headway", "not met"]}, {"they": names})
         places = page.ask("[...document.querySelectorAll('#legend svg, #events')].map(each => each.getBoundingClientRect().top)")
-        suite.holds("they stand below the events", min(places[:-1]) > places[-1])
+        suite.holds("they stand below the events", min(places[1:]) > places[0])
     page.resize(1440, 900)
 
 
