@@ -38,7 +38,7 @@ const build = view => {
   drawn = null;
 };
 
-const costNow = ({ tensions }, { number, weight }) => tensions ? BigInt(tensions.get(number).slack) * BigInt(weight) : 0n;
+const costNow = ({ tensions }, { number, weight }) => tensions && tensions.has(number) ? BigInt(tensions.get(number).slack) * BigInt(weight) : 0n;
 
 // The questions, those of the dearest activities first. What rules nothing out is not asked for.
 const questionsOf = (view, way) => {

@@ -23,7 +23,7 @@ export const pricesOf = question => (known.get(markNow()) || NONE).get(keyOf(que
 export const pricedMinutes = ({ of, number, lower, upper }) => {
   const { network: { period }, times, tensions } = shown.view, isEvent = of === 'event';
   const least = isEvent ? 0 : lower, count = isEvent ? period : Math.min(upper - lower + 1, period);
-  const now = isEvent ? times.get(number) : tensions && tensions.get(number).tension, start = Math.min(Math.max(now || 0, least), least + count - 1);
+  const now = isEvent ? times.get(number) : tensions?.get(number)?.tension, start = Math.min(Math.max(now || 0, least), least + count - 1);
   const far = minute => isEvent ? Math.min(Math.abs(minute - start), period - Math.abs(minute - start)) : Math.abs(minute - start);
   return [...Array(count).keys()].map(each => least + each).sort((one, other) => far(one) - far(other) || one - other);
 };
