@@ -43,7 +43,7 @@ class Day(Case):
         violated = [cell.text for cell in page.all("data-violated-event")[0].children]
         self.assertEqual(violated, ["M to Benton arrives at Benton", "at 7:39", "7:20", "19 minutes early"])
         axis = [node.text for node in page.all("class") if node.attributes["class"] == "axis"]
-        self.assertEqual(axis, ["0:00", "4:00", "8:00", "12:00", "16:00", "20:00", "0:00"])
+        self.assertEqual(axis, [f"{hour % 24}:00" for hour in range(0, 26, 2)])
         figures = {node.attributes["data-figure"]: node.children[0].text for node in page.all("data-figure")}
         self.assertEqual(figures["period"], "24:00")
         self.assertNotRegex(page.text, "(^|[ >]):[0-9]")

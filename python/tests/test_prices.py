@@ -338,7 +338,10 @@ class Take(Case):
         bench.fix(1, 3)
         bench.take(bench.optimum())
         self.assertEqual((bench.times, bench.undo(), bench.times), ({1: 3, 2: 7}, ["time 1 3", "time 2 7"], {}))
-        for found in (bench.search(60).found(), bench.near({1: 3, 2: 0}).found(), bench.prices(event=1).found()[3], bench.attempt(10**6)):
+        prices = bench.prices(event=1)
+        self.assertEqual(prices.found()[3].cost, 4)
+        self.assertEqual(prices.timetable(3)[1], 3)
+        for found in (bench.search(60).found(), bench.near({1: 3, 2: 0}).found(), prices.known[3], bench.attempt(10**6)):
             bench.take(found)
             self.assertEqual(bench.times[1], 3)
         before = state_of(bench)
