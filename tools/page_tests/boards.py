@@ -62,7 +62,7 @@ def from_names(suite: Suite, page: Hands) -> None:
     """Two clicks on a station's name show its board, in rows, the diagram, the netgraph, the corridor and tables; so do B, a button and a typed name."""
     page.again()
     row = page.ask("(({ left, top, height }) => [left + 10, top + height / 2])(document.querySelector('[data-row=\"3\"] .name').getBoundingClientRect())")
-    page.click(*row, count=2)
+    page.click(row[0], row[1], count=2)
     page.frame()
     suite.note("in a row", {"it": page.ask("Page.labelOf(3).station")}, {"it": station(page)})
     for tab, name in [("diagram", "Marden"), ("netgraph", "Linton"), ("corridor", "Kelby")]:

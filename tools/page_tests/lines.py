@@ -165,8 +165,8 @@ def line_altered(suite: Suite, page: Hands) -> None:
         ("stop-line", {"stop_station": "D", "stop_before": "x", "stop_after": "3"}, "stop at D: wanted minutes, as 6, or 6 to 8"),
         ("stop-line", {"stop_station": "D", "stop_before": "3-2", "stop_after": "3"}, "stop at D: the least minutes of 3-2 are more than the most"),
     ]:
-        came = altered(page, "M", form, **fields)
-        suite.holds(f"{form}: {came}", told in came and page.lines() == [] and page.state() == state)
+        fault = altered(page, "M", form, **fields)
+        suite.holds(f"{form}: {fault}", told in fault and page.lines() == [] and page.state() == state)
 
 
 def hourly(suite: Suite, page: Hands) -> None:
@@ -208,7 +208,7 @@ def event_without_time(suite: Suite, page: Hands) -> None:
     page.press("no-time")
     lost = sorted(set(all_ways) - set(page.ask(ways)))
     suite.note("the diagram", {"lost": ["2 3", "3 4"], "told": True}, {"lost": lost, "told": "between events with times: 1 event has no time." in page.text("#diagram-note")})
-    came = {"cost": page.text("#figure-cost b"), "note": page.text("#figure-cost small"), "violated": page.text("#figure-violations b")}
+    came: Dict[str, Any] = {"cost": page.text("#figure-cost b"), "note": page.text("#figure-cost small"), "violated": page.text("#figure-violations b")}
     suite.note("the figures", {"cost": cost, "note": "1 event has no time", "violated": "0"}, came)
     bar = page.ask("document.querySelector('[data-way=\"1\"] .whole').getAttribute('d')")
     suite.note("the bar of the train", {"d": "M0.5 .5h5M13.5 .5h0"}, {"d": bar})

@@ -1,6 +1,6 @@
 """Trains that are moved as a whole, and from an event on: by a mouse, a finger and keys."""
 
-from typing import List, Tuple
+from typing import Any, Callable, Dict, List, Tuple
 
 from page_tests.fingers import scroll, tap, touch
 from page_tests.hands import Hands
@@ -175,7 +175,8 @@ def by_taps(suite: Suite, page: Hands) -> None:
     page.frame()
     suite.note("a tap on a bar", {"line": "B", "lines": []}, {"line": page.ask("Page.labelOf(Page.chosen).line"), "lines": page.lines()})
     page.ask("Page.choose(1)")
-    for name, place in [("a bar", lambda: bar(page)), ("a way", lambda: piece(page, 1))]:
+    places: Dict[str, Callable[[], Any]] = {"a bar": lambda: bar(page), "a way": lambda: piece(page, 1)}
+    for name, place in places.items():
         x, y = place()[:2]
         before = page.ask("Page.find('events').scrollTop")
         scroll(page, (x, y), 200 if y < 500 else -200)

@@ -2,7 +2,7 @@
 
 import base64
 import re
-from typing import Any, Callable, Dict, List
+from typing import Any, Callable, Dict, List, Tuple
 
 from page_tests.costing import CURVE, WHOLE
 from page_tests.hands import Hands
@@ -116,7 +116,7 @@ def shifted(suite: Suite, page: Hands) -> None:
     suite.note("first a turn is violated, then nothing", {"they": [1, 0], "times": {**before, **later}}, {"they": broken, "times": times})
 
 
-def moved_and_mended(page: Hands, steps: Steps, move: Callable[[], None], mend: Callable[[], None], take: Callable[[], None]) -> object:
+def moved_and_mended(page: Hands, steps: Steps, move: Callable[[], None], mend: Callable[[], None], take: Callable[[], None]) -> Tuple[Any, Any]:
     """A train is moved, and what breaks is mended where anything does: what is violated then, and all times."""
     move()
     if page.ask(VIOLATED):
