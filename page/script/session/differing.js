@@ -1,9 +1,9 @@
 // What two networks with their timetables differ in, in the words of the Python package's `compare`: network, times, cost by kind.
 
 import { noLabels } from '../base/labels.js';
-import { turnsOf } from '../base/turning.js';
 import { activityName, clock, eventName, lengthText, minutesText, spanMinutes, spanText, windowText } from './names.js';
 import { within } from './shown.js';
+import { turnsOf } from '../base/turning.js';
 
 const byNumber = (one, other) => one - other;
 const both = (one, other) => [...new Set([...one, ...other])].sort(byNumber);
