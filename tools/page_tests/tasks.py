@@ -126,7 +126,7 @@ def moved_and_mended(page: Hands, steps: Steps, move: Callable[[], None], mend: 
     return page.ask(VIOLATED), page.ask(TIMES)
 
 
-@within(900)
+@within(1800)
 def each_shifted(suite: Suite, page: Hands) -> None:
     """Each train of three regions runs 3 minutes later, and what breaks is mended: in as many steps as are told, or fewer."""
     most, trains = told()["move any train by 3, mend it"], 0
