@@ -1,6 +1,7 @@
 """Tasks of a planner, each done once by a mouse and once by keys, in as many steps as page/README.md tells."""
 
 import base64
+import os
 import re
 from typing import Any, Callable, Dict, List, Tuple
 
@@ -128,7 +129,8 @@ def moved_and_mended(page: Hands, steps: Steps, move: Callable[[], None], mend: 
 
 @within(1800)
 def each_shifted(suite: Suite, page: Hands) -> None:
-    """Each train of three regions runs 3 minutes later, and what breaks is mended: in as many steps as are told, or fewer."""
+    """Trains of three regions run 3 minutes later, and what breaks is mended: in as many steps as are told, or fewer. Every third
+    train is tried; with PESPBENCH_EACH_TRAIN in the environment each is, which takes some minutes."""
     most, trains = told()["move any train by 3, mend it"], 0
     for seed in (1, 2, 3):
         page.again()
@@ -136,6 +138,8 @@ def each_shifted(suite: Suite, page: Hands) -> None:
         before = page.ask(TIMES)
         for events in page.ask("Page.view.trains.map(train => train.events)"):
             first, trains = events[0], trains + 1
+            if trains % 3 != 1 and "PESPBENCH_EACH_TRAIN" not in os.environ:
+                continue
             by_mouse, by_keys = Steps(page), Steps(page)
 
             def drag() -> None:

@@ -1,5 +1,6 @@
 """What a call answers that is refused memory: nothing is done, and that is what it tells."""
 
+import re
 from typing import Optional
 
 from hostile.growths import FILES
@@ -10,6 +11,9 @@ from hostile.inputs import ends_of_replies
 NOTHING = (0, 0, orders.MEMORY, 0, 0)
 # Calls that tell four numbers.
 SEARCHES = [orders.SEARCH, orders.PRICE]
+# A line, whose reply to `try` may lack a timetable that was known: what is refused memory for it goes without.
+TRY = re.compile(rb"[ \t\r]*try[ \t]")
+NONE_KNOWN = b"stopped none\n"
 
 
 def fault_of_refused(call: Call) -> Optional[str]:
@@ -25,6 +29,8 @@ def fault_of_one(call: Call, answer: Answer) -> Optional[str]:
     if answer.told == call.last.told and answer.shown == call.last.shown and call.order.kind != orders.SEARCH:
         # It did without.
         return None
+    if call.order.kind == orders.ASK and TRY.match(call.order.texts[0]) and answer.told == (len(NONE_KNOWN), 0, 0, 0, 0):
+        return None if NONE_KNOWN.startswith(answer.shown) else "another reply than that no timetable is known"
     if call.order.kind == orders.OPEN and answer.told[2] in (1, 2, 3):
         is_right = answer.told[3:] == (orders.NO_MEMORY_TO_READ, 0) and answer.told[0] == 0 and answer.told[1] > 0
         return None if is_right else "no fault of a file for want of memory"
@@ -33,13 +39,23 @@ def fault_of_one(call: Call, answer: Answer) -> Optional[str]:
     return None if is_right else "neither want of memory nor what it answers without a refusal"
 
 
+def tells_of_none(call: Call, answer: Answer) -> bool:
+    """Whether replies are as without a refusal up to one to `try`, which then tells of no timetable."""
+    commands = call.order.texts[3]
+    first = next((place for place, line in enumerate(commands.split(b"\n")) if TRY.match(line)), None)
+    if first is None or call.order.room < call.last.told[0]:
+        return first is not None
+    before = ends_of_replies(commands, call.last.shown)[first]
+    return answer.shown[:before] == call.last.shown[:before] and NONE_KNOWN in answer.shown[before:]
+
+
 def fault_of_run(call: Call, answer: Answer) -> Optional[str]:
     """A run that is refused memory answers the lines before one, or has a first part of all replies."""
     if answer.told == call.last.told and answer.shown == call.last.shown:
         return None
     length, place, status, reason, field = answer.told
     if not call.last.shown.startswith(answer.shown) or length > call.last.told[0]:
-        return "no first part of the replies"
+        return None if tells_of_none(call, answer) else "no first part of the replies"
     if 1 <= status <= len(FILES):
         return None if (length, reason, field) == (0, orders.NO_MEMORY_TO_READ, 0) and place > 0 else "no fault of a file for want of memory"
     if status == orders.NOT_WRITTEN:
