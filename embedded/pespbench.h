@@ -14,6 +14,11 @@
 extern "C" {
 #endif
 
+/* The version of this header, as pesp_version returns that of the library: 1,000,000 for each major, 1,000 for each minor number,
+ * and the patch. It is that of the last release, also with unreleased changes. */
+#define PESP_VERSION 2000
+uint32_t pesp_version(void);
+
 /* How a call ended. */
 enum pesp_status {
     PESP_DONE = 0,                /* all lines are answered */
@@ -162,7 +167,7 @@ struct pesp_found {
  * timetable, or a smaller lower bound (tested, not proved).
  * If lines have changed the network in between (an event, a window, a fixed time, an activity, its ends, span or weight), the
  * next call restarts, with the best timetable so far if that still meets everything. Lines that change only times, and
- * queries, do not affect the search: `try` is a separate search, and `optimum` and `adopt` resume this one to its end.
+ * queries, do not affect the search: `try` is a separate one (not proved); `optimum` and `adopt` resume this one to its end.
  *
  * nodes: any number, a limit of the call. With 0 it searches only what needs no node, such as an event with an empty domain,
  *     and returns the known answer again, or the best timetable so far, as long as it meets everything, with bound 0,
@@ -178,14 +183,24 @@ void pesp_search(struct pesp_session *session, uint64_t nodes, uint16_t *out, si
 
 /* What the best timetable costs with the event at the time: what pesp_search returns after the line `fix`, but nothing of the
  * session changes, and at a time outside of the event's window no timetable meets everything. Call with more nodes until the
- * state is PESP_OPTIMUM or PESP_NO_TIMETABLE; a call resumes the last one of this event and time, if `goes_on` was 1. Prices
- * do not affect pesp_search, which does not affect them. The library of `tools/install --module` does not have this call.
+ * state is PESP_OPTIMUM or PESP_NO_TIMETABLE; a call resumes the last one of the same question, if `goes_on` was 1. Prices and
+ * pesp_search do not affect each other (not proved). The library of `tools/install --module` has neither call for prices.
  *
  * nodes: as in pesp_search.
  * found: the cost, the lower bound and the state, if `told->status` is PESP_DONE, and otherwise unchanged. PESP_CLOSED;
  *     PESP_REFUSED: 2 if there is no such event, 4 if the time is not below the period; PESP_MEMORY. */
 void pesp_price(struct pesp_session *session, uint32_t event, uint16_t time, uint64_t nodes, struct pesp_found *found,
                 struct pesp_told *told);
+
+/* What the best timetable costs with this tension of the activity, up to whole periods: what pesp_search returns after the line
+ * `span A x x`, but nothing of the session changes. The activity itself then costs nothing: add its own cost, weight times
+ * (tension - lower). Any tension can be asked for, also outside of the span.
+ *
+ * tension: any number of 16 bits. Those that differ by whole periods have the same price: pass it modulo the period, so that a
+ *     call resumes the last one.
+ * nodes, found: as in pesp_price. PESP_CLOSED; PESP_REFUSED: 6 if there is no such activity (`place` is 0); PESP_MEMORY. */
+void pesp_price_tension(struct pesp_session *session, uint32_t activity, uint16_t tension, uint64_t nodes,
+                        struct pesp_found *found, struct pesp_told *told);
 
 #ifdef __cplusplus
 }

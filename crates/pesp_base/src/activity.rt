@@ -2,9 +2,10 @@
 
 use crate::{ActivityId, EventId, Span, Weight};
 
-/// An activity leads from one event to another and takes a time within its span, whole periods aside.
+/// A constraint from one event to another: the time between them is in its span, up to whole
+/// periods.
 ///
-/// An activity whose ends are one event is a loop, and an activity like any other.
+/// A loop, whose ends are one event, is an activity like any other.
 #[derive(Clone, Copy, Debug, PartialEq, Eq)]
 pub struct Activity {
     pub id: ActivityId,

@@ -24,7 +24,7 @@ impl Model for EventId {
 }
 
 impl EventId {
-    /// The number, where it is within the limit.
+    /// The number, if it is within the limit.
     pub fn new(value: u32) -> Option<EventId>
         ensures { SomeIff result (value ≤ greatest_number) value }
     {

@@ -1,6 +1,6 @@
 //! Numbers, spans, tensions and refusals of periodic timetables.
 //!
-//! No call of this crate takes memory.
+//! Nothing in this crate allocates.
 #![tactic(auto)]
 
 mod activity;

@@ -1,4 +1,5 @@
-//! The limits of numbers and counts, in one place.
+//! The limits of numbers and counts, as docs/FORMATS.md has them. The interface sets them; no
+//! measurement chose one.
 
 ghost use Rattle.std.specs.Prelude.{◌≡◌, ◌≤◌, ◌*◌};
 ghost use Rattle.pesp_base.specs.Limits as limits;
@@ -23,8 +24,10 @@ pub const LEAST_BOUND: i32 = -1_000_000;
 /// The greatest bound of a span.
 pub const GREATEST_BOUND: i32 = 1_000_000;
 
-/// How many events an instance or a timetable of this period may have: 20,000, and fewer where events
-/// times period would pass 2,400,000.
+/// The greatest number of events of an instance or a timetable with this period: 20,000, or fewer
+/// so that events times period is at most 2,400,000.
+///
+/// The product bounds the memory of the domains, which have a row of residues for each event.
 pub fn max_events(period: Period) -> usize
     ensures value { result ≡ limits.max_events period }
     ensures few { result ≤ 20000 }
@@ -33,8 +36,10 @@ pub fn max_events(period: Period) -> usize
     (2_400_000 / usize::from(period.get())).min(20_000)
 }
 
-/// How many activities an instance of this period may have: 100,000, and fewer where activities times
-/// period would pass 12,000,000.
+/// The greatest number of activities of an instance with this period: 100,000, or fewer so that
+/// activities times period is at most 12,000,000.
+///
+/// The product bounds the memory of support counts and the greatest cost.
 pub fn max_activities(period: Period) -> usize
     ensures value { result ≡ limits.max_activities period }
     ensures few { result ≤ 100000 }

@@ -1,5 +1,5 @@
 //! Out of memory.
 
-/// The allocator refused to give memory, or more of it.
+/// The allocator refused a request.
 #[derive(Clone, Copy, Debug, PartialEq, Eq)]
 pub struct Memory;

@@ -1,23 +1,23 @@
-//! Whole numbers of any count of digits, in a text.
+//! Whole numbers of any length in a text.
 
 ghost use Rattle.std.specs.Prelude.{◌≡◌, ◌<ℤ◌, ◌≤ℤ◌, pos, neg_ℤ, min, option_map, IfOk};
 ghost use Rattle.pesp_base.specs.Texts.{digits_value, number_value};
 ghost use Rattle.pesp_base.specs.Numbers.{capped, number_cap, number_in};
 
-/// Why a text is no number within the limits.
+/// Why a text is not a number within the limits.
 #[derive(Clone, Copy, Debug, PartialEq, Eq)]
 pub enum NumberFault {
-    /// The text is no number.
+    /// The text is not a number.
     NotANumber,
     /// The number is outside the limits.
     OutOfRange,
 }
 
-/// The limits of [`number_between`] are nearer to 0 than this, so that a number as far as this is
-/// outside them whatever its digits are.
+/// Values are capped here, so that a number of any length can be read. The cap is beyond all limits
+/// of [`number_between`], and ten times it still fits 64 bits.
 pub const NUMBER_CAP: u64 = 10_000_000_000_000;
 
-/// The number that the digits write, or [`NUMBER_CAP`] where it is greater.
+/// The value of the digits, or [`NUMBER_CAP`] if it is greater. None unless there are digits alone.
 fn capped_digits(digits: &[u8]) -> Option<u64>
     ensures { result ≡ option_map (min number_cap) (digits_value digits.now) }
 {
@@ -34,7 +34,7 @@ fn capped_digits(digits: &[u8]) -> Option<u64>
     Some(number)
 }
 
-/// The number that the text writes, or [`NUMBER_CAP`] with its sign where it is farther from 0.
+/// The value of the text, or [`NUMBER_CAP`] with its sign if it is further from 0.
 fn capped_number(text: &[u8]) -> Option<i64>
     ensures { result ≡ option_map capped (number_value text.now) }
 {
@@ -45,10 +45,10 @@ fn capped_number(text: &[u8]) -> Option<i64>
     }
 }
 
-/// The number that the text writes, where it is within the limits.
+/// The value of the text, if it is a number within the limits.
 ///
-/// A number is one or more digits after a `+`, a `-` or neither, as many digits as there may be; it
-/// takes no memory to read it. Errors: `NotANumber`, then `OutOfRange`.
+/// A number is an optional `+` or `-` and one or more digits, of any length. Nothing is allocated.
+/// Errors in order: `NotANumber`, `OutOfRange`.
 pub fn number_between(text: &[u8], low: i64, high: i64) -> Result<i64, NumberFault>
     requires low { neg_ℤ (pos number_cap) <ℤ low }
     requires high { high <ℤ pos number_cap }

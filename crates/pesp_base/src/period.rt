@@ -6,7 +6,8 @@ ghost use Rattle.pesp_base.specs.Limits.{least_period, greatest_period};
 use crate::{GREATEST_PERIOD, LEAST_PERIOD};
 use std::marker::Model;
 
-/// After how many units of time a timetable repeats: from [`LEAST_PERIOD`] to [`GREATEST_PERIOD`].
+/// The number of time units after which a timetable repeats, from [`LEAST_PERIOD`] to
+/// [`GREATEST_PERIOD`].
 #[derive(Clone, Copy, Debug, PartialEq, Eq)]
 pub struct Period {
     // From LEAST_PERIOD to GREATEST_PERIOD.
@@ -24,7 +25,7 @@ impl Model for Period {
 }
 
 impl Period {
-    /// The period, where it is within the limits.
+    /// The period, if it is within the limits.
     pub fn new(value: u16) -> Option<Period>
         ensures { SomeIff result ((least_period ≤ value) × (value ≤ greatest_period)) value }
     {

@@ -8,25 +8,25 @@ use crate::{ActivityId, EventId};
 /// Why an edit or a question is refused.
 #[derive(Clone, Copy, Debug, PartialEq, Eq)]
 pub enum Refusal {
-    /// The number is an event already.
+    /// An event with this number exists.
     EventExists(EventId),
-    /// The number is no event.
+    /// No event has this number.
     NoEvent(EventId),
-    /// An activity has the event as an end; the least such activity is named.
+    /// The event is an end of an activity; the one with the least number is named.
     EventInUse(EventId, ActivityId),
     /// The time is not below the period.
     TimeOutOfRange(u16),
-    /// The number is an activity already.
+    /// An activity with this number exists.
     ActivityExists(ActivityId),
-    /// The number is no activity.
+    /// No activity has this number.
     NoActivity(ActivityId),
-    /// There are as many events as there may be.
+    /// The greatest number of events is reached.
     TooManyEvents,
-    /// There are as many activities as there may be.
+    /// The greatest number of activities is reached.
     TooManyActivities,
     /// The event has no window, so it is not fixed.
     NotFixed(EventId),
-    /// The allocator refused.
+    /// Out of memory.
     Memory,
     /// The event has no time.
     MissingTime(EventId),

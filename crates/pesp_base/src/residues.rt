@@ -10,7 +10,7 @@ use crate::{Period, Span};
 use std::marker::Model;
 use std::ops::Range;
 
-/// Which way residues go from the first one.
+/// The direction in which residues follow the first one.
 #[derive(Clone, Copy)]
 enum Direction {
     Up,
@@ -18,7 +18,7 @@ enum Direction {
 }
 
 impl Direction {
-    /// The residue so many steps from the first one.
+    /// The residue that is `step` steps from the first one.
     fn residue_at(self, period: Period, first: u16, step: u16) -> u16
         requires { (first < period) × (step < period) }
         ensures { result ≡ residue_at self period first step }
@@ -32,16 +32,16 @@ impl Direction {
     }
 }
 
-/// The residues of [`partners`] or [`sources`] that are left, from either end.
+/// The remaining residues of [`partners`] or [`sources`], which can be taken from either end.
 #[derive(Drop)]
 pub struct Residues {
-    // Above the first residue, and no less than the end of the steps.
+    // Greater than `first`, and at least the end of `steps`.
     period: Period,
     // The residue of step 0.
     first: u16,
-    // The steps that are left.
+    // The remaining steps.
     steps: Range<u16>,
-    // Which way the steps go from the first residue.
+    // The direction of the steps from `first`.
     direction: Direction,
 }
 
@@ -78,7 +78,7 @@ impl DoubleEndedIterator for Residues {
     }
 }
 
-/// How many residues at one end of an activity go with one at the other.
+/// The number of residues that an activity admits at one end for one residue at the other.
 fn count(period: Period, span: Span) -> u16
     ensures value { result ≡ reach period span + 1 }
     ensures within { result ≤ period }
@@ -89,8 +89,8 @@ fn count(period: Period, span: Span) -> u16
 
 /// The residues that an activity admits at its `to` event, for residue `r` of its `from` event.
 ///
-/// They are `r + lower + k` modulo the period, in units of time and below the period, by rising slack
-/// `k`: from 0 to the smaller of `upper - lower` and the period less 1. Each comes once.
+/// They are `r + lower + k` modulo the period, in units of time and below the period, by rising
+/// slack `k`: from 0 to the smaller of `upper - lower` and the period less 1. Each occurs once.
 pub fn partners(period: Period, span: Span, r: u16) -> Residues
     requires { r < period }
     ensures order { result ≡ partners_of period span r }
@@ -107,8 +107,8 @@ pub fn partners(period: Period, span: Span, r: u16) -> Residues
 
 /// The residues that an activity admits at its `from` event, for residue `s` of its `to` event.
 ///
-/// They are `s - lower - k` modulo the period, in units of time and below the period, by rising slack
-/// `k`: from 0 to the smaller of `upper - lower` and the period less 1. Each comes once.
+/// They are `s - lower - k` modulo the period, in units of time and below the period, by rising
+/// slack `k`: from 0 to the smaller of `upper - lower` and the period less 1. Each occurs once.
 pub fn sources(period: Period, span: Span, s: u16) -> Residues
     requires { s < period }
     ensures order { result ≡ sources_of period span s }

@@ -6,10 +6,11 @@ ghost use Rattle.pesp_base.specs.Bounds.{Bounds, AreBounds, is_out, span_of};
 use crate::{GREATEST_BOUND, LEAST_BOUND};
 use std::marker::Model;
 
-/// The least and the greatest tension with which an activity is met, each from [`LEAST_BOUND`] to [`GREATEST_BOUND`].
+/// The least and the greatest tension with which an activity is met, each from [`LEAST_BOUND`] to
+/// [`GREATEST_BOUND`].
 #[derive(Clone, Copy, Debug, PartialEq, Eq)]
 pub struct Span {
-    // From LEAST_BOUND on, and at most the upper bound.
+    // At least LEAST_BOUND, and at most `upper`.
     lower: i32,
     // At most GREATEST_BOUND.
     upper: i32,
@@ -25,7 +26,7 @@ impl Model for Span {
     ghost inverse = { λ b. record { lower = b.lower; upper = b.upper } };
 }
 
-/// Why there is no such span.
+/// Why two bounds are not a span.
 #[derive(Clone, Copy, Debug, PartialEq, Eq)]
 pub enum SpanFault {
     /// A bound is outside the limits.

@@ -24,7 +24,7 @@ impl Model for Weight {
 }
 
 impl Weight {
-    /// The weight, where it is within the limit.
+    /// The weight, if it is within the limit.
     pub fn new(value: u32) -> Option<Weight>
         ensures { SomeIff result (value ≤ greatest_weight) value }
     {

@@ -7,12 +7,13 @@ use crate::Period;
 use crate::arithmetic::remainder;
 use std::marker::Model;
 
-/// Residues one above the other, of which the last of the period is followed by 0: at each of them an event may stand.
+/// The residues at which an event may take place: consecutive ones, where 0 follows the last
+/// residue of the period.
 #[derive(Clone, Copy, Debug, PartialEq, Eq)]
 pub struct Window {
-    // Below the period that it was made with: `new` asks for it, and the type does not know it.
+    // Below the period passed to `new`. A window keeps no period: the instance knows that it fits.
     first: u16,
-    // From 1 to that period, which the type does not know either.
+    // From 1 to the period passed to `new`.
     length: u16,
 }
 
@@ -25,7 +26,7 @@ impl Model for Window {
 }
 
 impl Window {
-    /// The window, where its first residue is below the period and its length from 1 to the period.
+    /// The window, if its first residue is below the period and its length from 1 to the period.
     pub fn new(period: Period, first: u16, length: u16) -> Option<Window>
         ensures { SomeIff result (IsWindow period (record { first = first; length = length }))
             (record { first = first; length = length }) }
@@ -49,7 +50,8 @@ impl Window {
         self.length
     }
 
-    /// Whether the residue is one of the window's, `first + k` modulo the period with `k` below `length`.
+    /// Whether the residue is in the window: `first + k` modulo the period, for a `k` below
+    /// `length`.
     pub fn holds(self, period: Period, residue: u16) -> bool
         ensures value { result ≡ is_held period self residue }
         ensures held { IsTrue result ↔ IsHeld period self residue }
@@ -58,7 +60,7 @@ impl Window {
             && remainder(residue as i32 - self.first as i32, period) < self.length
     }
 
-    /// The time of a window of one residue.
+    /// The only residue of a window of length 1.
     pub fn only_time(self) -> Option<u16>
         ensures { result ≡ only_time self }
     {

@@ -1,5 +1,5 @@
 -- Trials: what is answered for an instance after an edit that is not made.
-use Rattle.std.specs.Prelude.{◌≡◌, ℕ, ◌⊎◌, Bool, true, false, IsOk, Option, Some, None, Err}
+use Rattle.std.specs.Prelude.{◌≡◌, ℕ, ◌⊎◌, Bool, true, false, IsOk, Option, Some, None, Ok, Err}
 use Rattle.std.specs.Option.{option_map_or}
 use Rattle.pesp_base.specs.Windows.{Interval}
 use Rattle.pesp_base.specs.declared.refusal.Refusal.{Refusal}
@@ -23,14 +23,15 @@ abbrev pub is_within : Network → Trial → Bool
 is_within I (Time e t) = admits I e t
 is_within I (Span n span) = true
 
--- what a search for the optimum of the edited instance may come to; outside of the event's window there is no timetable
+-- what a search for the optimum of the edited instance may come to, where the edit is accepted; outside of the event's window there is no timetable
 pub record IsPriced (I : Network) (trial : Trial) (limit : ℕ) (known : Known) (nodes : ℕ) : Type 0 where
+  pub accepted : edited I (edit_of trial) ≡ Ok (effect I (edit_of trial))
   pub within : is_within I trial ≡ true → IsKnown (effect I (edit_of trial)) None (Some limit) known nodes
   pub outside : is_within I trial ≡ false → (known.is_stopped ≡ false) × (known.best ≡ None) × (nodes ≡ 0)
 
--- the refusal of the edit, or out of memory where it has none
+-- the refusal of the edit, or out of memory where it has none and there is something to search for
 abbrev pub IsTrialRefusal : Network → Trial → Refusal → Type 0
-IsTrialRefusal I trial refusal = (edited I (edit_of trial) ≡ Err refusal) ⊎ ((refusal ≡ no.Memory) × IsOk (edited I (edit_of trial)))
+IsTrialRefusal I trial refusal = (edited I (edit_of trial) ≡ Err refusal) ⊎ ((refusal ≡ no.Memory) × IsOk (edited I (edit_of trial)) × (is_within I trial ≡ true))
 
 -- ---- how the edit is taken back
 

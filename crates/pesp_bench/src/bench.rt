@@ -1,4 +1,4 @@
-//! A workbench and its parts.
+//! The workbench.
 
 mod asks;
 mod edits;
@@ -17,25 +17,28 @@ use pesp_tension::Timetable;
 use std::alloc::Global;
 use std::marker::Model;
 
-/// A keeper with nothing pushed, a working timetable on some of its events, and what is known of the optimum.
+/// A keeper with nothing pushed, a working timetable of some of its events, and the optimum if it
+/// is known.
 #[derive(Drop)]
 pub struct Bench<K: Keeper> {
-    // Nothing is pushed on it.
+    // Nothing is pushed on it. Its instance is the workbench's.
     keeper: K,
-    // Of the instance's period, and of events of the instance.
+    // Has the instance's period, and times of the instance's events only.
     times: Timetable,
-    // What the times cost, and how many events have none.
+    // The cost of the times and the number of events without one, exact after each call.
     kept: KeptCost,
-    // The optimum of the keeper's instance; None where it is not known.
+    // The optimum of the keeper's instance; None if it is not known.
     known: Option<Answer>,
-    // The timetable of an optimum that was forgotten, or that a search stopped with; whether it meets everything is
-    // asked where it is used.
+    // The timetable of a forgotten optimum or of a stopped search. It may violate something: each
+    // use checks it (docs/DECISIONS.md, "Workbench").
     candidate: Option<Timetable>,
-    // What a search that stopped is gone on with from; whether it is of this instance is asked where it is used.
+    // Stopped searches for the optimum, possibly of other instances: networks are compared before
+    // one is resumed (docs/DECISIONS.md, "A search by cycles").
     searches: Searches,
-    // The same of searches under a restriction.
+    // The same for `price`. They are kept apart, so that a price does not replace a stopped search
+    // for the optimum (docs/DECISIONS.md, "The rims").
     prices: Searches,
-    // Of the last search.
+    // The nodes of the last search for the optimum.
     nodes: u64,
 }
 
@@ -58,7 +61,7 @@ impl<K: Keeper> Model for Bench<K> {
 }
 
 impl<K: Keeper> Bench<K> {
-    /// The workbench without times.
+    /// The workbench of the keeper's instance, without times. No optimum is known.
     pub fn new(alloc: Global, keeper: K) -> Bench<K>
         requires { K.pushes keeper ≡ [] }
         ensures { result ≡ record {
@@ -70,7 +73,7 @@ impl<K: Keeper> Bench<K> {
         } }
     {
         let times = Timetable::new(alloc, keeper.instance().period());
-        let kept = KeptCost::untimed(keeper.instance(), &times);
+        let kept = KeptCost::new(keeper.instance(), &times);
         Bench {
             keeper,
             times,
@@ -83,13 +86,15 @@ impl<K: Keeper> Bench<K> {
         }
     }
 
+    /// The instance.
     pub fn instance(&self) -> &Instance
         ensures { result.now ≡ self.now.instance }
     {
         self.keeper.instance()
     }
 
-    /// The working timetable, of the instance's period and of events of it.
+    /// The working timetable. It has the instance's period, and times of the instance's events
+    /// only.
     pub fn timetable(&self) -> &Timetable
         ensures value { result.now ≡ self.now.times }
         ensures period { self.now.times.period ≡ self.now.instance.period }
@@ -99,6 +104,7 @@ impl<K: Keeper> Bench<K> {
         &self.times
     }
 
+    /// The keeper of the domains, with nothing pushed.
     pub fn keeper(&self) -> &K
         ensures network { K.network result.now ≡ self.now.instance }
         ensures pushes { K.pushes result.now ≡ [] }
@@ -107,7 +113,7 @@ impl<K: Keeper> Bench<K> {
         &self.keeper
     }
 
-    /// The optimum, where it is known.
+    /// The optimum, if it is known (docs/RULES.md, "Optimum").
     pub fn known(&self) -> Option<&Answer>
         ensures value { option_copied result ≡ self.now.known }
         ensures optimum { IfSome result (λ answer. IsAnswer self.now.instance answer.now) }
@@ -115,7 +121,8 @@ impl<K: Keeper> Bench<K> {
         self.known.as_ref()
     }
 
-    /// The nodes of the last search for the optimum; 0 where a known one served, and before the first search.
+    /// The nodes of the last search for the optimum: 0 if the optimum was known already, if memory
+    /// ran out, and before the first search. `price` does not change it.
     pub fn last_nodes(&self) -> u64
         ensures { result ≡ self.now.nodes }
     {

@@ -1,5 +1,5 @@
-//! The timetable of a forgotten optimum, or of a search that stopped: where it still meets everything, it bounds the
-//! next search.
+//! The candidate: the timetable of a forgotten optimum or of a stopped search. While it meets
+//! everything, its cost bounds the next search.
 
 ghost use Rattle.std.specs.Prelude.{◌≡◌, ℕ, IfNone, IfSome, None};
 ghost use Rattle.pesp_instance.specs.Network.{Network};
@@ -11,7 +11,7 @@ use pesp_instance::Instance;
 use pesp_search::{Best, member_cost};
 use pesp_tension::Timetable;
 
-/// What the candidate costs, where it meets everything.
+/// The cost of the candidate, if there is one and it meets everything.
 pub(crate) fn candidate_cost(instance: &Instance, candidate: &Option<Timetable>) -> Option<u64>
     ensures cost { IsCandidate instance.now result candidate.now }
     ensures none { IfNone result (IfSome candidate.now (λ m. IsMember instance.now m → ⊥)) }
@@ -22,7 +22,8 @@ pub(crate) fn candidate_cost(instance: &Instance, candidate: &Option<Timetable>)
     }
 }
 
-/// What a search under the candidate's cost stopped with, or else the candidate, which is then handed out.
+/// The timetable that a search bounded by the candidate's cost stopped with; if it found none, the
+/// candidate, which is moved out.
 pub(crate) fn or_candidate(
     best: Option<Best>,
     bound: Option<u64>,

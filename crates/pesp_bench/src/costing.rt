@@ -1,4 +1,5 @@
-//! What the working timetable costs, and how many events have no time: kept through each change, and not computed again.
+//! The cost of the working timetable, and the number of events without a time. Each change updates
+//! both: `cost` had summed the whole network each time (docs/HISTORY.md, "A kept cost").
 
 ghost use Rattle.std.specs.Prelude.{◌≡◌, ◌≤◌, ◌<◌, ◌+◌, ◌*◌, ◌-◌, ◌^◌, [], IfErr, IfSome, IsSome, IsTrue, None, Ok, OnErr, OnOk, sum_by};
 ghost use Rattle.pesp_base.specs.Limits.{greatest_period, greatest_weight, max_activities};
@@ -15,7 +16,7 @@ use pesp_base::{Activity, EventId, Period, Refusal, Span, Weight, slack};
 use pesp_instance::{Edit, Instance};
 use pesp_tension::{EventTime, Timetable, cost};
 
-/// Weight times slack from one residue to another.
+/// Weight times slack of an activity from one residue to another.
 pub(crate) fn cost_between(weight: Weight, span: Span, period: Period, from: u16, to: u16) -> u64
     requires { (from < period) × (to < period) }
     ensures value { result ≡ weight * slack_of period span from to }
@@ -25,7 +26,8 @@ pub(crate) fn cost_between(weight: Weight, span: Span, period: Period, from: u16
     u64::from(weight.get()) * u64::from(slack)
 }
 
-/// Weight times slack of an activity. An end without a time counts as one at 0.
+/// Weight times slack of an activity. An end without a time counts as one at 0, so that the kept
+/// cost is a sum over all activities.
 pub(crate) fn cost_at(activity: &Activity, times: &Timetable) -> u64
     ensures value { result ≡ cost_in times.now activity.now }
     ensures small { result ≤ greatest_weight * (greatest_period - 1) }
@@ -35,7 +37,7 @@ pub(crate) fn cost_at(activity: &Activity, times: &Timetable) -> u64
     cost_between(activity.weight, activity.span, times.period(), from, to)
 }
 
-/// What all activities cost: the one walk over the network.
+/// The sum of weight times slack over all activities. Only a new workbench walks over all of them.
 fn cost_of_all(instance: &Instance, times: &Timetable) -> u64
     ensures { result ≡ cost_of instance.now times.now }
 {
@@ -46,7 +48,8 @@ fn cost_of_all(instance: &Instance, times: &Timetable) -> u64
     cost
 }
 
-/// What the activity that an edit drops or changes costs before it and after it.
+/// Weight times slack of the activity that an edit drops or changes, before and after the edit: 0
+/// after it is dropped.
 fn costs_changed(activity: &Activity, times: &Timetable, edit: &Edit) -> (u64, u64)
     ensures before { result.0 ≡ cost_in times.now activity.now }
     ensures after { result.1 ≡ cost_changed times.now edit.now activity.now }
@@ -69,8 +72,8 @@ fn costs_changed(activity: &Activity, times: &Timetable, edit: &Edit) -> (u64, u
     (before, after)
 }
 
-/// What the activity that is edited costs before the edit and after it, 0 where there is none, by the instance before
-/// it: looked up once.
+/// Weight times slack of the edited activity before and after the edit, 0 if there is none. The
+/// instance is that before the edit. The activity is looked up once.
 fn costs_edited(instance: &Instance, times: &Timetable, edit: &Edit) -> (u64, u64)
     ensures value { (J : Network) → edited instance.now edit.now ≡ Ok J
         → (result.0 ≡ cost_edited instance.now times.now edit.now)
@@ -91,31 +94,33 @@ fn costs_edited(instance: &Instance, times: &Timetable, edit: &Edit) -> (u64, u6
     }
 }
 
-/// How many events have no time after an edit, where so many had none before it.
+/// The number of events without a time after an accepted edit, from the number before it.
 fn missing_after(missing: usize, times: &Timetable, edit: &Edit) -> usize
     requires { missing < 2 ^ 64 - 1 }
     ensures { result ≡ missing_after edit.now times.now missing }
 {
     match *edit {
         Edit::AddEvent(_) => missing + 1,
-        // An event that is not there has no time either, and then none may be missing.
+        // An event that does not exist has no time either, and 0 may be missing. Its edit is
+        // refused.
         Edit::DropEvent(event) if times.get(event).is_none() => missing.saturating_sub(1),
         _ => missing,
     }
 }
 
-/// Of the working timetable.
+/// The cost of the working timetable, and the number of events without a time.
 #[derive(Clone, Copy)]
 pub(crate) struct KeptCost {
-    // What all activities cost; an event without a time counts as one at 0.
+    // The sum of weight times slack over all activities; an event without a time counts as one at
+    // 0.
     pub(crate) cost: u64,
-    // How many events of the instance have no time.
+    // The number of the instance's events without a time.
     pub(crate) missing: usize,
 }
 
 impl KeptCost {
-    /// That of a timetable without times.
-    pub(crate) fn untimed(instance: &Instance, times: &Timetable) -> KeptCost
+    /// The cost of a timetable without times.
+    pub(crate) fn new(instance: &Instance, times: &Timetable) -> KeptCost
         requires { times.now.entries ≡ [] }
         ensures { IsCosted instance.now times.now result.cost result.missing }
     {
@@ -125,21 +130,24 @@ impl KeptCost {
         }
     }
 
-    /// The cost, or refusal 11 with the least event that has no time.
-    pub(crate) fn told(&self, instance: &Instance, times: &Timetable) -> Result<u64, Refusal>
+    /// The cost of the working timetable.
+    ///
+    /// Refusal: 11 with the least event that has no time.
+    pub(crate) fn cost(&self, instance: &Instance, times: &Timetable) -> Result<u64, Refusal>
         requires times { AreTimesOf instance.now times.now }
         requires costed { IsCosted instance.now times.now self.now.cost self.now.missing }
         ensures { result ≡ where_timed instance.now times.now (cost_of instance.now times.now) }
     {
-        // Each call of an instance tells that it is one.
+        // Reading the instance makes its invariant known.
         let _period = instance.period();
         if self.missing == 0 {
             return Ok(self.cost);
         }
+        // Some event has no time, and this call looks for the least one.
         cost(instance, times)
     }
 
-    /// What cost so much before costs so much now.
+    /// Replaces the part of the cost from before a change by that after it.
     fn replace(&mut self, before: u64, after: u64)
         requires part { before ≤ self.old.cost }
         requires room { self.old.cost + after ≤ 2 ^ 64 - 1 }
@@ -149,7 +157,9 @@ impl KeptCost {
         self.cost = self.cost - before + after;
     }
 
-    /// Gives an event of the instance a time, also in place of one that it had before.
+    /// Sets the time of an event of the instance, whose time so far is `before`.
+    ///
+    /// Refusals in order: 4 if the time is not below the period; 10, only if the event has no time.
     pub(crate) fn set(
         &mut self,
         instance: &Instance,
@@ -168,7 +178,7 @@ impl KeptCost {
         ensures costed { IsCosted instance.now times.new self.new.cost self.new.missing }
         ensures network { IsNetwork instance.now }
     {
-        // Each call of an instance tells that it is one.
+        // Reading the instance makes its invariant known, which the clause `network` states.
         let _period = instance.period();
         let EventTime { event, time } = timed;
         if time >= times.period().get() {
@@ -183,7 +193,7 @@ impl KeptCost {
         Ok(())
     }
 
-    /// Takes the time of an event away that has one.
+    /// Removes the time of an event that has one.
     pub(crate) fn clear(&mut self, instance: &Instance, times: &mut Timetable, event: EventId)
         requires times { AreTimesOf instance.now times.old }
         requires costed { IsCosted instance.now times.old self.old.cost self.old.missing }
@@ -191,7 +201,7 @@ impl KeptCost {
         ensures times { times.new ≡ without_time times.old event }
         ensures costed { IsCosted instance.now times.new self.new.cost self.new.missing }
     {
-        // An event without a time counts as one at 0.
+        // Without a time it counts as one at 0.
         let own = (times.get(event).unwrap_or(0), 0);
         let costs = costs_around(instance, times, event, own);
         times.clear(event);
@@ -199,9 +209,9 @@ impl KeptCost {
         self.missing += 1;
     }
 
-    /// What is kept after an edit that is accepted, by the instance before it. A dropped event loses its time after
-    /// this.
-    pub(crate) fn edited(&self, instance: &Instance, times: &Timetable, edit: &Edit) -> KeptCost
+    /// The kept cost after an edit, if that is accepted. Instance and times are those before the
+    /// edit: a dropped event loses its time later.
+    pub(crate) fn after_edit(&self, instance: &Instance, times: &Timetable, edit: &Edit) -> KeptCost
         requires network { IsNetwork instance.now }
         requires times { AreTimesOf instance.now times.now }
         requires costed { IsCosted instance.now times.now self.now.cost self.now.missing }

@@ -1,4 +1,4 @@
-//! What of a known answer outlasts an edit.
+//! Which edits leave a known answer as it is.
 
 ghost use Rattle.std.specs.Prelude.{◌≡◌, ℕ, ◌↔◌, true, false, IfSome, IsTrue, None, Some, Ok};
 ghost use Rattle.pesp_base.specs.Windows.{IsWindow, is_held};
@@ -16,7 +16,7 @@ use pesp_instance::{Edit, Instance};
 use pesp_search::Answer;
 use pesp_tension::{Timetable, cost_of_activity, is_met};
 
-/// Whether an instance in which nothing meets everything may be another such no more.
+/// Whether some timetable may meet everything after the edit, if none did before.
 fn opens(instance: &Instance, edit: &Edit) -> bool
     ensures { result ≡ opens instance.now edit.now }
 {
@@ -32,7 +32,9 @@ fn opens(instance: &Instance, edit: &Edit) -> bool
     }
 }
 
-/// Whether a timetable may meet everything after the edit that did not, or cost less.
+/// Whether after the edit a timetable may meet everything that did not before, or cost less. A span
+/// counts by its bounds here: one that admits the same pairs from another lower bound has other
+/// costs (docs/DECISIONS.md, "Workbench").
 fn cheapens(instance: &Instance, edit: &Edit) -> bool
     ensures { result ≡ cheapens instance.now edit.now }
 {
@@ -49,7 +51,7 @@ fn cheapens(instance: &Instance, edit: &Edit) -> bool
     }
 }
 
-/// Whether an activity has times at both ends, is met and costs nothing.
+/// Whether an activity has times at both ends, is met, and costs nothing.
 fn adds_nothing(activity: &Activity, times: &Timetable) -> bool
     ensures yes { result ≡ true → (meets times.now activity.now ≡ true)
         × (cost_in times.now activity.now ≡ 0) }
@@ -62,7 +64,8 @@ fn adds_nothing(activity: &Activity, times: &Timetable) -> bool
     is_met(activity, times) && cost_of_activity(activity, times) == 0
 }
 
-/// Whether the event's time is one of these residues, `length` from `first` on, where they are a window of the period.
+/// Whether the event has a time, and it is one of the `length` residues from `first` on. False if
+/// these are not a window of the period.
 fn is_timed_within(
     instance: &Instance,
     event: EventId,
@@ -81,9 +84,10 @@ fn is_timed_within(
     }
 }
 
-/// Whether an optimum's timetable still meets everything at its cost, by what is edited alone: nothing else changes.
+/// Whether the timetable of an optimum still meets everything at its cost after the edit.
 ///
-/// The edit is one that makes nothing cheaper, by the instance before it.
+/// The instance is that before the edit, which makes no timetable cheaper. Only what is edited is
+/// looked at: nothing else changes.
 fn stands(instance: &Instance, edit: &Edit, times: &Timetable) -> bool
     requires { IsMember instance.now times.now }
     ensures { TellsStay instance.now edit.now times.now result }
@@ -116,14 +120,15 @@ fn stands(instance: &Instance, edit: &Edit, times: &Timetable) -> bool
     }
 }
 
-/// Whether an edit, where it is accepted, keeps what is known, by the instance before it.
+/// Whether the known answer remains known after the edit, if that is accepted. The instance is that
+/// before the edit.
 pub(crate) fn keeps(instance: &Instance, edit: &Edit, known: &Option<Answer>) -> bool
     requires { IfSome known.now (IsAnswer instance.now) }
     ensures value { (J : Network) → edited instance.now edit.now ≡ Ok J
         → IfSome known.now (λ answer. IsTrue result ↔ Keeps instance.now edit.now answer) }
     ensures network { IsNetwork instance.now }
 {
-    // Each call of an instance tells that it is one.
+    // Reading the instance makes its invariant known, which the clause `network` states.
     let _period = instance.period();
     match known {
         Some(Answer::Infeasible) => !opens(instance, edit),
@@ -134,7 +139,7 @@ pub(crate) fn keeps(instance: &Instance, edit: &Edit, known: &Option<Answer>) ->
     }
 }
 
-/// Forgets what is known, and makes an optimum's timetable the candidate.
+/// Forgets the answer. The timetable of an optimum becomes the candidate.
 pub(crate) fn forget(known: &mut Option<Answer>, candidate: &mut Option<Timetable>)
     ensures { known.new ≡ None }
 {

@@ -1,4 +1,4 @@
-//! Laws of kept answers: each holds of every instance.
+//! Laws of kept answers. Each holds for every instance.
 
 ghost use Rattle.pesp_bench.specs.Kept.{EachKeptAnswerHolds, WindowsThatAdmit};
 
@@ -7,8 +7,9 @@ pub fn kept_answers_hold()
     ensures { EachKeptAnswerHolds }
 {}
 
-/// To fix an event admits a residue anew but for an event without a window or at a time of its window. To unfix it
-/// does where its time was fixed, and does not where its window was of all residues.
+/// Fixing an event admits a new residue exactly if the event has a window without that time.
+/// Removing a window admits a new residue if it is a fixed time, and does not if it holds all
+/// residues.
 pub fn windows_admit()
     ensures { WindowsThatAdmit }
 {}

@@ -1,4 +1,5 @@
-//! What the activities at an event cost, with its time and with another one: nothing else is asked.
+//! The cost of the activities at an event, at its time and at another one. No other activity is
+//! visited.
 
 ghost use Rattle.std.specs.Prelude.{◌≡◌, ◌<◌, ◌≤◌, ◌*◌, ◌-◌, ◌-ℤ◌, pos, sum_by};
 ghost use Rattle.pesp_base.specs.Limits.{greatest_period, greatest_weight, max_activities};
@@ -12,7 +13,8 @@ use pesp_base::{Activity, EventId};
 use pesp_instance::Instance;
 use pesp_tension::Timetable;
 
-/// The times at an end of an activity before the event moves and after it. An end without a time counts as one at 0.
+/// The time at an end of an activity before and after the event moves, from `own.0` to `own.1`. An
+/// end without a time counts as one at 0.
 fn times_at(times: &Timetable, event: EventId, own: (u16, u16), end: EventId) -> (u16, u16)
     requires { IsMove times.now event own }
     ensures before { result.0 ≡ time_at times.now end }
@@ -26,7 +28,7 @@ fn times_at(times: &Timetable, event: EventId, own: (u16, u16), end: EventId) ->
     (time, time)
 }
 
-/// Weight times slack of an activity before the event moves and after it.
+/// Weight times slack of an activity before and after the event moves.
 fn costs_of(activity: &Activity, times: &Timetable, event: EventId, own: (u16, u16)) -> (u64, u64)
     requires { IsMove times.now event own }
     ensures before { result.0 ≡ cost_in times.now activity.now }
@@ -42,7 +44,8 @@ fn costs_of(activity: &Activity, times: &Timetable, event: EventId, own: (u16, u
     (before, after)
 }
 
-/// What the activities with the event as an end cost before it moves and after it, a loop once.
+/// The sum of weight times slack over the activities at the event, before and after it moves. A
+/// loop counts once.
 pub(crate) fn costs_around(
     instance: &Instance,
     times: &Timetable,
@@ -67,7 +70,7 @@ pub(crate) fn costs_around(
     (before, after)
 }
 
-/// What the cost would change by with the event at the time.
+/// By how much the cost would change with the event at this time.
 pub(crate) fn change_by(instance: &Instance, times: &Timetable, event: EventId, time: u16) -> i64
     requires { time < times.now.period }
     ensures { result ≡ pos (cost_of instance.now (with_time times.now event time))

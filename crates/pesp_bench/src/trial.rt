@@ -1,4 +1,4 @@
-//! Trials: edits that are searched with and not made.
+//! Trials: edits under which a search is made, and which are undone after it.
 
 ghost use Rattle.std.specs.Prelude.{◌≡◌, [], None, Some, IfOk, IfErr, OnErr, true, false};
 ghost use Rattle.pesp_instance.specs.Network.{IsNetwork};
@@ -12,7 +12,7 @@ use pesp_instance::{Edit, Instance};
 use pesp_search::{Known, Searches, known_after};
 use std::alloc::Global;
 
-/// A restriction under which the best timetable is asked for.
+/// A restriction under which the best timetable is searched for.
 #[derive(Clone, Copy, Debug, PartialEq, Eq)]
 pub enum Trial {
     /// The event is at this residue.
@@ -32,7 +32,7 @@ impl Trial {
         }
     }
 
-    /// The edit that takes it back.
+    /// The edit that undoes the restriction, from the instance before it.
     fn undo(&self, instance: &Instance) -> Edit
         ensures undo { result ≡ undo_of instance.now self.now }
         ensures network { IsNetwork instance.now }
@@ -49,7 +49,7 @@ impl Trial {
         }
     }
 
-    /// Whether the residue is in the event's window; any span may be tried.
+    /// Whether the residue is in the event's window, if it has one. Any span may be tried.
     fn is_within(&self, instance: &Instance) -> bool
         ensures { result ≡ is_within instance.now self.now }
     {
@@ -63,7 +63,9 @@ impl Trial {
     }
 }
 
-/// What a search comes to, or that no timetable meets everything where the trial is not within the window.
+/// The result of a search within the limit, or that no timetable meets everything if the time is
+/// outside the event's window: the edit replaced that window, so a search could find timetables
+/// outside it.
 fn search_within<K: Keeper>(
     alloc: Global,
     keeper: &mut K,
@@ -76,6 +78,7 @@ fn search_within<K: Keeper>(
         → IfOk result (λ r. IsKnown (K.network keeper.old) None (Some limit) r.0 r.1) }
     ensures outside { is_within ≡ false
         → IfOk result (λ r. (r.0.is_stopped ≡ false) × (r.0.best ≡ None) × (r.1 ≡ 0)) }
+    ensures memory { OnErr result (is_within ≡ true) }
     ensures network { K.network keeper.new ≡ K.network keeper.old }
     ensures pushes { K.pushes keeper.new ≡ [] }
     ensures counted { IfOk result (λ r. WerePushed (K.push_count keeper.old) r.1
@@ -87,13 +90,18 @@ fn search_within<K: Keeper>(
     }
     let none = Known {
         best: None,
+        // There is no timetable, so every number is a lower bound.
         lower_bound: u64::MAX,
         is_stopped: false,
     };
     Ok((none, 0))
 }
 
-/// What a search under the restriction comes to; the keeper is left as it was.
+/// The result of a search under the restriction. The keeper's instance is unchanged afterwards.
+///
+/// The edit is made and undone, with searches of its own, so that the search for the optimum
+/// resumes where it was (docs/DECISIONS.md, "The rims"). Refusals in order: those of the edit; 10,
+/// but not outside the window.
 pub(crate) fn search_trial<K: Keeper>(
     alloc: Global,
     keeper: &mut K,
@@ -116,7 +124,7 @@ pub(crate) fn search_trial<K: Keeper>(
     let edit = trial.edit();
     keeper.apply(&edit)?;
     let known = search_within(alloc, keeper, before, is_within, limit);
-    // What takes an accepted edit back is never refused.
+    // The edit that undoes an accepted one is never refused, and needs no memory.
     let _ = keeper.apply(&undo);
     match known {
         Ok(known) => Ok(known),

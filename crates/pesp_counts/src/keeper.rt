@@ -30,32 +30,34 @@ use std::alloc::Global;
 use std::marker::Model;
 use told::number_pairs;
 
-/// A pair that was pushed.
+/// A pushed pair.
 #[derive(Clone, Copy)]
 pub struct Pushed {
     pub pair: Pair,
-    /// Where the trail stood before.
+    /// The number of pairs in the trail before the push.
     pub mark: usize,
 }
 
-/// Keeps the domains by counts: for each residue at an end of an activity, how many residues of the other event go with it.
+/// Keeps the domains by support counts: for each residue at an end of an activity, the number of
+/// its partners in the domain of the other event.
 ///
-/// An edit or a push takes pairs out, each pair that goes lowers counts along the activities at its event, and a pair of which a
-/// count falls to 0 goes too. A pop puts back what its push took out. An edit that may bring pairs back puts back just those
-/// that it reaches, and then takes out what has no partner.
+/// An edit or a push removes pairs. Each removed pair lowers counts along the activities at its
+/// event, and a pair with a count of 0 is removed too. A pop restores what its push removed. A
+/// loosening edit restores only the pairs that it reaches, and then removes those without a
+/// partner.
 #[derive(Drop)]
 pub struct CountKeeper {
-    // That of which the rows are the domains.
+    // The instance that the rows are the domains of.
     instance: Instance,
-    // Each of another event; there is room for as many as there are events.
+    // No event occurs twice. There is room for as many as there are events.
     pushed: Vec<Pushed>,
-    // By place, and what the last accepted edit put back.
+    // By place, with what the last accepted edit restored.
     counted: Counted,
-    // That of the last edit that was accepted.
+    // The work of the last accepted edit.
     work: Work,
-    // How many pairs were pushed, those that were popped included.
+    // The number of pushes, popped ones included. It saturates.
     push_count: u64,
-    // Where an edit takes its memory from.
+    // Allocates what edits need.
     alloc: Global,
 }
 
@@ -79,8 +81,9 @@ impl Model for CountKeeper {
 }
 
 impl CountKeeper {
-    /// How many residues of the other event go with a residue at an end of an activity. There is no answer where no activity has
-    /// the number, or the residue is not in the domain of the event at that end.
+    /// The number of partners that a residue at an end of an activity has in the domain of the
+    /// other event. None if there is no such activity, or the residue is not in the domain at that
+    /// end.
     pub fn support(&self, activity: ActivityId, side: Side, residue: u16) -> Option<u16>
         ensures { IsSupportAnswer (self.now).network (self.now).pushes activity side residue
             result }
@@ -167,7 +170,7 @@ impl Keeper for CountKeeper {
         ensures pushes { (self.new).pushes ≡ [] }
         ensures count { (self.new).push_count ≡ (self.old).push_count }
     {
-        let change = Change::of(&self.instance, &self.counted.links, edit);
+        let change = Change::from_edit(&self.instance, &self.counted.links, edit);
         self.instance.apply(edit)?;
         let counted = &mut self.counted;
         counted.supports.forget();

@@ -1,4 +1,5 @@
-//! Domains kept by support counts: arc consistency as AC-4 keeps it, through edits that tighten and edits that loosen.
+//! Domains kept by support counts: arc consistency as in AC-4, through edits that tighten and edits
+//! that loosen.
 #![tactic(auto)]
 
 mod keeper;

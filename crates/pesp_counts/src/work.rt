@@ -1,20 +1,20 @@
-//! What an edit took.
+//! The work of an edit.
 
 ghost use Rattle.std.specs.Prelude.{◌≡◌};
 
 /// The work of an edit.
 #[derive(Clone, Copy, Debug, PartialEq, Eq)]
 pub struct Work {
-    /// How many pairs were put back.
+    /// The number of restored pairs.
     pub restored: u64,
-    /// How many pairs went, of those that were in the domains and those that were put back.
+    /// The number of removed pairs, of those in the domains before and of the restored ones.
     pub removed: u64,
-    /// How many looks at one residue along one activity were made.
+    /// The number of looks at one residue along one activity.
     pub probes: u64,
 }
 
 impl Work {
-    /// That of no edit.
+    /// The work of no edit.
     pub fn none() -> Work
         ensures { result ≡ record { restored = 0; removed = 0; probes = 0 } }
     {

@@ -7,8 +7,8 @@ ghost use Rattle.pesp_counts_arcs.specs.Ends.{is_from_to, passes};
 use pesp_base::{Period, Span};
 use pesp_domains::{remainder, width_of};
 
-/// An end of an activity. With a residue of its own event go those residues of the other event that
-/// stand from `first` above it on, `width` of them, around the period.
+/// An end of an activity. For a residue `r` of its own event the activity admits `width` residues
+/// of the other event: those from `r + first` on, modulo the period.
 #[derive(Clone, Copy, Debug, Default, PartialEq, Eq)]
 pub struct End {
     /// The place of the event at the other end.
@@ -66,7 +66,7 @@ impl End {
         }
     }
 
-    /// The residues of the other event that go with one of this one.
+    /// The residues of the other event that the activity admits for one of this event.
     pub fn ranges(&self, period: u16, residue: u16) -> Ranges
         requires period { 2 * period < 65536 }
         requires residue { residue < period }

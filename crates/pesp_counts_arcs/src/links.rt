@@ -21,17 +21,17 @@ use std::alloc::{AllocError, Global};
 use std::marker::Model;
 
 /// The ends of activities, listed at the places of their events. The activity at place q has the
-/// ends 2q and 2q + 1.
+/// ends 2q and 2q + 1. The lists share one store, so `SetEnds` needs no memory.
 #[derive(Drop)]
 pub struct Links {
-    /// The places of events. Each has a list.
+    /// The places of events. Each has a list in `at`.
     events: Places,
-    /// The places of activities. Each has both its ends.
+    /// The places of activities. Each has both its ends in `ends`.
     activities: Places,
-    /// Each end, by its number. Those of a place that no activity has say nothing.
+    /// Each end, by its number. Those of a place without an activity have no meaning.
     ends: Vec<End>,
-    /// The ends at each event's place. There is an item for each end, and each that is listed is
-    /// one of an activity that has a place.
+    /// The ends at each event's place. There is an item for each end, and each listed one is of an
+    /// activity that has a place.
     at: Lists,
 }
 
@@ -51,7 +51,7 @@ impl Model for Links {
 }
 
 impl Links {
-    /// No event and no activity has a place.
+    /// Links without places.
     pub fn new(alloc: Global) -> Links
         ensures { result ≡ no_links }
     {
@@ -63,7 +63,7 @@ impl Links {
         }
     }
 
-    /// Makes room for so many events and activities, which have no places yet.
+    /// Reserves room for this number of events and activities, and gives them no places.
     pub fn make_room(&mut self, events: usize, activities: usize) -> Result<(), AllocError>
         ensures { self.new ≡ self.old }
     {
@@ -96,15 +96,15 @@ impl Links {
         self.ends[number]
     }
 
-    /// The ends at the place of an event. At one that is not there are none.
-    pub fn at(&self, place: usize) -> Walk<'_>
+    /// The ends at the place of an event. A number that is not a place has none.
+    pub fn ends_at(&self, place: usize) -> Walk<'_>
         ensures { result ≡ ends_of (self.now).lists place }
     {
-        self.at.at(place)
+        self.at.walk(place)
     }
 
-    /// Gives a new event a place, at which no end is listed. Without the memory for it, all that
-    /// stood for something does.
+    /// Gives a new event a place, at which no end is listed. If memory runs out, the links still
+    /// represent the same instance.
     pub fn add_event(&mut self, event: EventId) -> Result<usize, AllocError>
         requires absent { place_of (self.old).events event ≡ None }
         ensures ok { OnOk result ((I : Network) → StandFor I self.old →
@@ -127,7 +127,7 @@ impl Links {
         Ok(place)
     }
 
-    /// Takes the place of an event away.
+    /// Frees the place of an event.
     pub fn drop_event(&mut self, event: EventId)
         ensures stand { (I J : Network) → edited I (edits.DropEvent event) ≡ Ok J →
             StandFor I self.old → StandFor J self.new }
@@ -139,8 +139,8 @@ impl Links {
         self.events.remove(event.get());
     }
 
-    /// Gives a new activity a place, and lists its ends. Without the memory for it, all that stood
-    /// for something does.
+    /// Gives a new activity a place, and lists its ends. If memory runs out, the links still
+    /// represent the same instance.
     pub fn add_activity(&mut self, period: Period, activity: &Activity) -> Result<usize, AllocError>
         requires absent { place_of (self.old).activities (activity.now).id ≡ None }
         requires from { IsSome (place_of (self.old).events (activity.now).from) }
@@ -170,7 +170,7 @@ impl Links {
         Ok(place)
     }
 
-    /// Takes the place of an activity away, and its ends out of the lists.
+    /// Frees the place of an activity, and removes its ends from the lists.
     pub fn drop_activity(&mut self, id: ActivityId)
         requires { (I : Network) × StandFor I self.old }
         ensures stand { (I J : Network) → edited I (edits.DropActivity id) ≡ Ok J →
@@ -192,7 +192,7 @@ impl Links {
         }
     }
 
-    /// Gives the ends of the activity at a place another span.
+    /// Gives the ends of an activity another span.
     pub fn set_span(&mut self, period: Period, id: ActivityId, span: Span)
         ensures stand { (I J : Network) → I.period ≡ period →
             edited I (edits.SetSpan id span) ≡ Ok J → StandFor I self.old → StandFor J self.new }
@@ -211,7 +211,7 @@ impl Links {
         }
     }
 
-    /// Lists the ends of an activity at other events.
+    /// Moves the ends of an activity to other events.
     pub fn set_ends(&mut self, id: ActivityId, from: EventId, to: EventId)
         requires stood { (I : Network) × StandFor I self.old }
         requires from { IsSome (place_of (self.old).events from) }
@@ -242,7 +242,7 @@ impl Links {
     }
 }
 
-/// Makes sure of the two ends of the activity at a place, and of room to list them.
+/// Makes the two ends of the activity at a place, and room to list them, unless they exist.
 fn make_ends(ends: &mut Vec<End>, at: &mut Lists, place: usize) -> Result<(), AllocError>
     requires { length (ends.old).items ≤ (at.old).items }
     ensures ok { OnOk result (2 * place + 1 < length (ends.new).items) }
@@ -253,7 +253,7 @@ fn make_ends(ends: &mut Vec<End>, at: &mut Lists, place: usize) -> Result<(), Al
     ensures stored { AreStored (at.new).items (at.new).lists }
     ensures err { OnErr result ((ends.new).items ≡ (ends.old).items) }
 {
-    // What saturates is more than there can be memory for.
+    // A saturated count is more than memory can hold, so it is refused below.
     let count = place.saturating_mul(2).saturating_add(2);
     at.grow_items(count)?;
     if ends.len() < count {

@@ -1,5 +1,5 @@
-//! Lists of small numbers that share one store, so that an item goes from one list to another
-//! without memory, and in constant time.
+//! Lists of small numbers that share one store, so that an item moves from one list to another in
+//! constant time and without memory.
 
 ghost use Rattle.std.specs.Prelude.{◌≡◌, ℕ, ◌^◌, ◌<◌, ◌≤◌, ◌==◌, not, [], ◌∷◌, filter, length, slice_set, OnOk, OnErr};
 ghost use Rattle.std.specs.List.{Contains};
@@ -9,28 +9,27 @@ ghost use Rattle.pesp_counts_arcs.specs.Lists.{AreStored, afters, befores, first
 use std::alloc::{AllocError, Global};
 use std::marker::Model;
 
-/// The first item of a list, and how many it has. The first of an empty list says nothing.
+/// The first item of a list, and the number of its items. In an empty list `first` has no meaning.
 #[derive(Clone, Copy, Default)]
 pub struct Head {
     pub first: u32,
     pub count: u32,
 }
 
-/// The items before and after one in its list, around it: after the last item comes the first.
-/// Those of an item in no list say nothing.
+/// The items before and after one in its ring, where the first item follows the last. Those of an
+/// unlisted item have no meaning.
 #[derive(Clone, Copy, Default)]
 pub struct Neighbours {
     pub before: u32,
     pub after: u32,
 }
 
-/// Lists, each a ring with a head, so that an item goes out of one in constant time.
+/// Lists, each a ring with a head, so that an item is removed in constant time.
 #[derive(Drop)]
 pub struct Lists {
-    /// The head of each list. They are fewer than 2^32. No item is in two lists, or twice in one.
+    /// The head of each list; fewer than 2^32. No item is in two lists, or twice in one.
     heads: Vec<Head>,
-    /// What stands around each item. They are fewer than 2^32, so that an item and a count are
-    /// numbers of 32 bits.
+    /// The neighbours of each item; fewer than 2^32, so that an item and a count fit 32 bits.
     items: Vec<Neighbours>,
 }
 
@@ -51,14 +50,14 @@ impl Model for Lists {
         AreRings a.items.items (lists_of (afters a.items.items) a.heads.items) };
 }
 
-/// The items of a list that are left, in their order.
+/// The remaining items of a list, in order.
 #[derive(Drop)]
 pub struct Walk<'a> {
-    /// What stands around each item, which leads from one to the next.
+    /// The neighbours of each item, which lead from one item to the next.
     items: &'a Vec<Neighbours>,
-    /// The next item, where one is left.
+    /// The next item, if one is left.
     item: u32,
-    /// How many are left. Each is an item.
+    /// The number of remaining items.
     left: u32,
 }
 
@@ -95,7 +94,7 @@ impl<'a> Iterator for Walk<'a> {
 }
 
 impl Lists {
-    /// No list, and room for no item.
+    /// No lists and no items.
     pub fn new(alloc: Global) -> Lists
         ensures { result ≡ record { items = 0; lists = [] } }
     {
@@ -105,15 +104,15 @@ impl Lists {
         }
     }
 
-    /// How many lists there are.
+    /// The number of lists.
     pub fn len(&self) -> usize
         ensures { result ≡ length (self.now).lists }
     {
         self.heads.len()
     }
 
-    /// The items of a list. One that is not there has none.
-    pub fn at(&self, list: usize) -> Walk<'_>
+    /// The items of a list. A number that is not a list has none.
+    pub fn walk(&self, list: usize) -> Walk<'_>
         ensures { result ≡ items_at (self.now).lists list }
     {
         let head = self.heads.get(list).copied().unwrap_or_default();
@@ -124,7 +123,7 @@ impl Lists {
         }
     }
 
-    /// Makes room for so many lists and items, which do not come yet.
+    /// Reserves room for this number of lists and items, and adds none.
     pub fn make_room(&mut self, lists: usize, items: usize) -> Result<(), AllocError>
         ensures { self.new ≡ self.old }
     {
@@ -132,8 +131,8 @@ impl Lists {
         self.items.reserve(items)
     }
 
-    /// Makes sure of room for so many items. Without the memory for it, or
-    /// for 2^32 and more, nothing changes.
+    /// Adds items up to this number. If memory runs out, or the number is 2^32 or more, nothing
+    /// changes.
     pub fn grow_items(&mut self, items: usize) -> Result<(), AllocError>
         ensures items { OnOk result (items ≤ (self.new).items) }
         ensures more { (self.old).items ≤ (self.new).items }
@@ -150,8 +149,8 @@ impl Lists {
         Ok(())
     }
 
-    /// Makes sure of so many lists. Those that come are empty. Without the memory for them, or for
-    /// 2^32 and more, nothing changes.
+    /// Adds empty lists up to this number. If memory runs out, or the number is 2^32 or more,
+    /// nothing changes.
     pub fn grow_lists(&mut self, lists: usize) -> Result<(), AllocError>
         ensures many { OnOk result (lists ≤ length (self.new).lists) }
         ensures more { length (self.old).lists ≤ length (self.new).lists }
@@ -169,7 +168,7 @@ impl Lists {
         Ok(())
     }
 
-    /// Puts an item that is in no list in front of one.
+    /// Adds an unlisted item at the front of a list.
     pub fn add(&mut self, list: usize, item: usize)
         requires list { list < length (self.old).lists }
         requires item { item < (self.old).items }
@@ -191,7 +190,7 @@ impl Lists {
         };
     }
 
-    /// Takes an item out of its list.
+    /// Removes an item from its list.
     pub fn remove(&mut self, list: usize, item: usize)
         requires { Contains (items_at (self.old).lists list) item }
         ensures items { (self.new).items ≡ (self.old).items }
@@ -215,7 +214,7 @@ impl Lists {
     }
 }
 
-/// The last and the first item of a list. In an empty one the item that comes is both.
+/// The last and the first item of a list. For an empty list, the new item is both.
 fn ring_ends(items: &[Neighbours], head: Head, item: u32) -> (u32, u32)
     requires { first_of head item < length items.now }
     ensures last { result.0 ≡ last_of (befores items.now) head item }
@@ -227,7 +226,7 @@ fn ring_ends(items: &[Neighbours], head: Head, item: u32) -> (u32, u32)
     (items[head.first as usize].before, head.first)
 }
 
-/// Lets one item stand before the other.
+/// Links two items, the one before the other.
 fn join(items: &mut [Neighbours], before: u32, after: u32)
     requires before { before < length items.old }
     requires after { after < length items.old }

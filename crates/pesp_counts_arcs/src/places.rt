@@ -1,4 +1,7 @@
-//! Places: small numbers of the keeper's own, which stand for the numbers of events and activities.
+//! Places: the keeper's own small numbers for events and activities.
+//!
+//! They are guessed by the last bits of a number. docs/HISTORY.md compares this with a hash map
+//! under "Room at once, ends of 12 bytes, and places by a guess".
 
 ghost use Rattle.std.specs.Prelude.{◌≡◌, ◌==◌, ◌≤◌, ◌<◌, ◌+◌, ◌%◌, ◌↔◌, ℕ, [], None, Some, if◌then◌else◌, length, IfOk, OnOk, OnErr};
 ghost use Rattle.pesp_counts_arcs.specs.Places.{AreByBits, AreGuessed, ArePlaces, IsGuessed, StayGuessed, number_at, place_of};
@@ -8,15 +11,15 @@ use std::alloc::{AllocError, Global};
 use std::collections::BTreeMap;
 use std::marker::Model;
 
-/// A place for each number that has one, which it keeps as long as it is there.
+/// A place for each number, which is the same as long as the number has one.
 #[derive(Drop)]
 pub struct Places {
-    /// The number at each place that is taken: the one that has this place.
+    /// The number at each place that is in use.
     numbers: Slab<u32>,
-    /// A place for the last bits of each number, as many as a power of two, or none. It is the
-    /// number's own where the number at it says so.
+    /// A place guessed for each number by its last bits. The length is a power of two, or 0. A
+    /// guess is right if `numbers` has the number at that place.
     guesses: Vec<u32>,
-    /// The places of the numbers that do not stand at their guess.
+    /// The place of each number whose guess is wrong.
     others: BTreeMap<u32, usize>,
 }
 
@@ -32,7 +35,7 @@ impl Model for Places {
 }
 
 impl Places {
-    /// No number has a place.
+    /// No places.
     pub fn new(alloc: Global) -> Places
         ensures { result ≡ record { numbers = [] } }
     {
@@ -43,7 +46,7 @@ impl Places {
         }
     }
 
-    /// Makes room for so many numbers, which have no places yet.
+    /// Reserves room for this number of numbers, and gives them no places.
     pub fn make_room(&mut self, numbers: usize) -> Result<(), AllocError>
         ensures { self.new ≡ self.old }
     {
@@ -55,20 +58,20 @@ impl Places {
     pub fn place(&self, number: u32) -> Option<usize>
         ensures { result ≡ place_of self.now number }
     {
-        match guessed(&self.numbers, &self.guesses, number) {
+        match guessed_place(&self.numbers, &self.guesses, number) {
             Some(place) => Some(place),
             None => self.others.get(&number).copied(),
         }
     }
 
-    /// The number that has a place, if there is one.
+    /// The number at a place, if there is one.
     pub fn number(&self, place: usize) -> Option<u32>
         ensures { result ≡ number_at self.now place }
     {
         self.numbers.get(place).copied()
     }
 
-    /// Gives a new number a place that no other has. Without the memory for it, nothing changes.
+    /// Gives a new number a free place. If memory runs out, nothing changes.
     pub fn insert(&mut self, number: u32) -> Result<usize, AllocError>
         requires absent { place_of self.old number ≡ None }
         ensures places { IfOk result (λ p. (n : ℕ) →
@@ -87,13 +90,13 @@ impl Places {
         Ok(place)
     }
 
-    /// Takes the place of a number away.
+    /// Frees the place of a number.
     pub fn remove(&mut self, number: u32)
         ensures places { (n : ℕ) →
             place_of self.new n ≡ (if n == number then None else place_of self.old n) }
         ensures paired { ArePlaces self.new }
     {
-        let place = match guessed(&self.numbers, &self.guesses, number) {
+        let place = match guessed_place(&self.numbers, &self.guesses, number) {
             Some(place) => Some(place),
             None => self.others.remove(&number),
         };
@@ -103,7 +106,7 @@ impl Places {
     }
 }
 
-/// Which guess is a number's: that of its last bits.
+/// The index of a number's guess, by its last bits.
 fn guess_index(guesses: &[u32], number: u32) -> usize
     requires { AreByBits guesses.now }
     ensures { result ≡ number % length guesses.now }
@@ -111,8 +114,8 @@ fn guess_index(guesses: &[u32], number: u32) -> usize
     number as usize & guesses.len().wrapping_sub(1)
 }
 
-/// The place of a number, where it is the guessed one.
-fn guessed(numbers: &Slab<u32>, guesses: &[u32], number: u32) -> Option<usize>
+/// The place of a number, if its guess is right.
+fn guessed_place(numbers: &Slab<u32>, guesses: &[u32], number: u32) -> Option<usize>
     requires { AreByBits guesses.now }
     ensures { (p : ℕ) → (result ≡ Some p) ↔ IsGuessed numbers.now guesses.now number p }
 {
@@ -120,7 +123,8 @@ fn guessed(numbers: &Slab<u32>, guesses: &[u32], number: u32) -> Option<usize>
     (*numbers.get(guess)? == number).then_some(guess)
 }
 
-/// Guesses the vacant place for a number from now on, unless its guess is another number's place.
+/// Makes the vacant place the guess of a number, unless another number needs that guess. Returns
+/// whether it did.
 fn keep_guess(numbers: &Slab<u32>, guesses: &mut [u32], number: u32) -> bool
     requires by_bits { AreByBits guesses.old }
     requires some { 0 < length guesses.old }
@@ -139,8 +143,8 @@ fn keep_guess(numbers: &Slab<u32>, guesses: &mut [u32], number: u32) -> bool
     true
 }
 
-/// Makes sure of so many guesses. They are copied behind themselves, so that what is guessed for a
-/// number stays.
+/// Adds guesses up to this number. They are copied behind themselves, so every number keeps its
+/// guess.
 fn make_guesses(guesses: &mut Vec<u32>, count: usize) -> Result<(), AllocError>
     requires { AreByBits (guesses.old).items }
     ensures by_bits { AreByBits (guesses.new).items }
@@ -148,6 +152,8 @@ fn make_guesses(guesses: &mut Vec<u32>, count: usize) -> Result<(), AllocError>
     ensures stay { StayGuessed (guesses.old).items (guesses.new).items }
 {
     if guesses.is_empty() {
+        // At least 16, which spends 64 bytes to avoid the first reallocations. No measurement chose
+        // it.
         let room = count.max(16);
         guesses.resize(room.checked_next_power_of_two().ok_or(AllocError)?, 0)?;
     }

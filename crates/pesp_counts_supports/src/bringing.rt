@@ -1,4 +1,4 @@
-//! Pairs come to the rows, and into a list.
+//! Restores pairs to the rows, and lists them.
 
 ghost use Rattle.std.specs.Prelude.{◌≡◌, ◌<◌, ◌≤◌, ◌+◌, ◌-◌, ◌*◌, ℕ, Bool, Some, None, [], false, cond, IsTrue, IfSome, All, length};
 ghost use Rattle.std.specs.List.{Contains};
@@ -14,7 +14,7 @@ ghost use Rattle.pesp_counts_supports.specs.Restoring.{admits_at};
 ghost use Rattle.pesp_counts_supports.specs.Spent.{unmet, unmet_in};
 ghost use Rattle.pesp_counts_supports.specs.Supports.{Fit};
 
-use crate::moving::{Moved, is_spared_end, touched};
+use crate::moving::{Moved, is_spared_end, touched_ranges};
 use crate::supports::Supports;
 use crate::{Back, Placed, probes};
 use pesp_base::{EventId, Period, Window};
@@ -38,8 +38,8 @@ pub(crate) fn ranges_of(window: Window, period: Period) -> Ranges
     end.ranges(period.get(), 0)
 }
 
-/// The residues that the window of the event at a place leaves, where there are some that it does not. Where no event has the place,
-/// none is left.
+/// The residues that the window of the event at a place admits, or `None` if it admits all. A place
+/// without an event admits no residue.
 fn admitted_at(instance: &Instance, links: &Links, place: usize) -> Option<Ranges>
     ensures some { IfSome result (λ w. AreRanges (instance.now).period w
         × (size_of w < (instance.now).period) × ((r : ℕ) → r < (instance.now).period
@@ -84,7 +84,8 @@ fn lacks_between(row: &Row, low: u16, high: u16) -> bool
     false
 }
 
-/// Whether the window of a residue at an end, if one is asked for, holds some of what moves, of which these are the sums.
+/// Whether the window of a residue at an end has some of the moving residues, whose sums are given.
+/// Without an end it is met.
 fn is_met(sums: &[u16], met: Option<End>, residue: u16) -> bool
     requires { (end : End) → met ≡ Some end → end.first + end.width + residue < length sums.now }
     ensures { result ≡ is_met_by sums.now met residue }
@@ -99,7 +100,8 @@ fn is_met(sums: &[u16], met: Option<End>, residue: u16) -> bool
 }
 
 impl Supports {
-    /// Brings a residue at a place that the rows lack there: to the end of the list, too. Where an end is given, what moved must meet it.
+    /// Restores a residue that a place lacks, and appends it to the list. If there is an end, the
+    /// moving residues must meet it there.
     fn bring(&mut self, place: usize, met: Option<End>, residue: u16, back: &mut Back)
         requires place { place < length (self.old).rows }
         requires met { IsMeeting (self.old).period met }
@@ -114,7 +116,7 @@ impl Supports {
         if self.holds(place, residue) {
             return;
         }
-        probes::over(&mut self.probes, residue, residue + 1);
+        probes::probe_range(&mut self.probes, residue, residue + 1);
         if is_met(&self.sums, met, residue) {
             self.rows[place].put_in(residue);
             back.push_reserved(Placed {
@@ -124,7 +126,8 @@ impl Supports {
         }
     }
 
-    /// Brings those of a range of residues at a place that the rows lack, and that what moved meets.
+    /// Restores those of a range of residues at a place that it lacks, and that the moving residues
+    /// meet.
     fn bring_range(&mut self, place: usize, met: Option<End>, residues: Range<u16>, back: &mut Back)
         requires place { place < length (self.old).rows }
         requires met { IsMeeting (self.old).period met }
@@ -143,7 +146,7 @@ impl Supports {
         }
     }
 
-    /// Brings those of two ranges of residues.
+    /// Restores those of two ranges of residues.
     fn bring_ranges(&mut self, place: usize, met: Option<End>, ranges: Ranges, back: &mut Back)
         requires place { place < length (self.old).rows }
         requires met { IsMeeting (self.old).period met }
@@ -159,7 +162,7 @@ impl Supports {
         self.bring_range(place, met, 0..ranges.wrapped, back);
     }
 
-    /// Brings what goes along an activity with what moved at the place of an end.
+    /// Restores the partners, along an activity, of what moved at the place of an end.
     fn bring_along(
         &mut self,
         instance: &Instance,
@@ -186,14 +189,17 @@ impl Supports {
         let near = links.end(number);
         let far = links.end(near.mate as usize);
         let place = near.looks_at as usize;
-        let ranges = touched(came, near, self.period.get());
+        let ranges = touched_ranges(came, near, self.period.get());
+        // The row is read first, because that costs less: docs/HISTORY.md, "Counts move in one
+        // way".
         if lacks_some(&self.rows[place], ranges) {
             let ranges = admitted_at(instance, links, place).unwrap_or(ranges);
             self.bring_ranges(place, Some(far), ranges, back);
         }
     }
 
-    /// Brings what goes with what moved at a place, along all activities there but the spared one.
+    /// Restores the partners of what moved at a place, along all activities there but the spared
+    /// one.
     pub(crate) fn bring_around(
         &mut self,
         instance: &Instance,
@@ -216,14 +222,14 @@ impl Supports {
         ensures probes { LooksAt (((self.old).period - 1) * length (ends_of (links.now).lists place))
             self.old self.new back.old back.new }
     {
-        for number in links.at(place) {
+        for number in links.ends_at(place) {
             if !is_spared_end(spared, number) {
                 self.bring_along(instance, links, number, came, back);
             }
         }
     }
 
-    /// Brings all that is admitted at these places.
+    /// Restores all admitted residues at these places.
     pub(crate) fn bring_starts(
         &mut self,
         instance: &Instance,

@@ -1,4 +1,4 @@
-//! Counts are made anew.
+//! Recounting.
 
 ghost use Rattle.std.specs.Prelude.{◌≡◌, ◌<◌, ◌≤◌, ◌*◌, ◌+◌, ◌&&◌, ◌⊎◌, nat_lt, ℕ, [], length};
 ghost use Rattle.std.specs.List.{Contains};
@@ -12,7 +12,7 @@ use crate::supports::Supports;
 use pesp_counts_arcs::{End, Links};
 
 impl Supports {
-    /// Counts the partners at one end anew.
+    /// Recounts the partners at one end.
     pub fn recount(&mut self, number: usize, end: End)
         requires end { number * (self.old).period + (self.old).period ≤ length (self.old).counts }
         requires looks { end.looks_at < length (self.old).counted }
@@ -40,7 +40,7 @@ impl Supports {
         self.move_range(number, end, Way::In, 0, period);
     }
 
-    /// Puts every residue into every row, with the counts for it, and forgets the trail.
+    /// Adds every residue to every row, sets the counts accordingly, and clears the trail.
     pub fn refill(&mut self, links: &Links)
         requires fit { Fit links.now self.old }
         ensures rows { (p r : ℕ) → has_at (self.new).rows p r
@@ -58,7 +58,7 @@ impl Supports {
         }
     }
 
-    /// Makes each count of the ends at a place the width of its end.
+    /// Sets each count of the ends at a place to the width of its end.
     fn widen(&mut self, links: &Links, place: usize)
         requires fit { Fit links.now self.old }
         ensures wide { (k : ℕ) → Contains (ends_of links.now.lists place) k
@@ -68,7 +68,7 @@ impl Supports {
         ensures same { self.new ≡ record self.old { counts = (self.new).counts } }
     {
         let period = self.period.get();
-        for number in links.at(place) {
+        for number in links.ends_at(place) {
             let base = self.counts.base(number, period);
             self.counts
                 .fill_range(base, base + period as usize, links.end(number).width);

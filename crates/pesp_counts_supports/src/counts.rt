@@ -1,4 +1,4 @@
-//! How many partners each residue has at each end of an activity.
+//! The number of partners of each residue at each end of an activity.
 
 ghost use Rattle.std.specs.Prelude.{◌≡◌, ◌+◌, ◌*◌, ◌<◌, ◌≤◌, ◌⊎◌, ℕ, [], length, slice_index_or, OnOk, OnErr};
 ghost use Rattle.pesp_counts_supports.specs.Counted.{AreShifted, CanShift};
@@ -16,11 +16,12 @@ enum Values {
     Wide(Vec<u16>),
 }
 
-/// Counts, each of which is at most a period. This type alone knows how wide a count is: one byte where the period fits in one,
-/// and else two.
+/// Counts, each at most the period. Only this type knows how wide a count is: one byte if the
+/// period fits one, else two. docs/HISTORY.md has the cost under "Windows and counts of two
+/// widths".
 #[derive(Drop)]
 pub(crate) struct Counts {
-    // Narrow exactly where the period fits in a byte.
+    // Narrow if and only if the period fits a byte.
     values: Values,
 }
 
@@ -38,7 +39,7 @@ impl Model for Counts {
 }
 
 impl Counts {
-    /// No counts, for this period.
+    /// No counts, of the width for this period.
     pub(crate) fn new(alloc: Global, period: Period) -> Counts
         ensures none { result.values ≡ [] }
         ensures fits { period ≤ result.most }
@@ -51,7 +52,7 @@ impl Counts {
         Counts { values }
     }
 
-    /// The count at a place.
+    /// The count at an index.
     pub(crate) fn get(&self, at: usize) -> u16
         requires { at < length (self.now).values }
         ensures { result ≡ slice_index_or (self.now).values at 0 }
@@ -62,18 +63,19 @@ impl Counts {
         }
     }
 
-    /// Where the counts of an end begin, which has one for each residue.
+    /// The index of the first count of an end, which has one for each residue.
     pub(crate) fn base(&self, end: usize, period: u16) -> usize
         requires { end * period + period ≤ length (self.now).values }
         ensures base { result ≡ end * period }
         ensures small { result + period < 18446744073709551616 }
     {
-        // That this is a number is known by the invariant: there are so many counts.
+        // The product fits, because the invariant bounds the number of counts.
         let _values = &self.values;
         end * period as usize
     }
 
-    /// The first residue that is held and has no partner, by the counts from one on, one for each.
+    /// The index of the first held residue without a partner. `held` and the counts from index
+    /// `from` on run in parallel.
     pub(crate) fn first_lone(&self, held: &[bool], from: usize) -> Option<usize>
         requires { from + length held.now ≤ length (self.now).values }
         ensures { IsFirst (is_lone held.now (self.now).values from) 0 (length held.now) result }
@@ -92,7 +94,7 @@ impl Counts {
         None
     }
 
-    /// Moves each count from one on by the difference of two sums: down by the one, and up by the other.
+    /// Changes the counts from an index on: each falls by its `down`, and rises by its `up`.
     pub(crate) fn shift(&mut self, from: usize, down: &[u16], up: &[u16])
         requires within { from + length down.now ≤ length (self.old).values }
         requires even { length up.now ≡ length down.now }
@@ -106,7 +108,7 @@ impl Counts {
         }
     }
 
-    /// Makes each count of a range this one.
+    /// Sets each count of a range.
     pub(crate) fn fill_range(&mut self, from: usize, to: usize, count: u16)
         requires order { from ≤ to }
         requires within { to ≤ length (self.old).values }
@@ -123,7 +125,7 @@ impl Counts {
         }
     }
 
-    /// Makes sure of so many counts. Those that come are 0; without the memory for them, nothing changes.
+    /// Adds counts of 0 up to this number. If memory runs out, nothing changes.
     pub(crate) fn grow(&mut self, long: usize) -> Result<(), AllocError>
         ensures most { (self.new).most ≡ (self.old).most }
         ensures long { OnOk result (long ≤ length (self.new).values) }

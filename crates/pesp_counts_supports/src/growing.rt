@@ -1,4 +1,4 @@
-//! Rows, counts and room come as places do.
+//! Rows, counts and room for new places.
 
 ghost use Rattle.std.specs.Prelude.{◌≡◌, ◌<◌, ◌≤◌, ◌*◌, ◌+◌, ◌==◌, ◌&&◌, ◌||◌, nat_lt, ℕ, [], length, max, All, OnOk, OnErr, vec_capacity};
 ghost use Rattle.pesp_counts_supports.specs.Counts.{has_at};
@@ -11,11 +11,12 @@ use pesp_base::Period;
 use pesp_domains::{Pair, Row};
 use std::alloc::{AllocError, Global};
 
-/// The greatest number of places, so that a listed pair keeps its own in 32 bits.
+/// The greatest number of places. A listed pair keeps its place in 32 bits, which saves a fifth of
+/// the memory at period 1,440: docs/HISTORY.md, "Windows and counts of two widths".
 const MOST_PLACES: usize = 4_294_967_295;
 
-/// Makes sure of so many rows in both lists, which are equally long. Rows that come are empty, and stay where there is no memory
-/// for the others.
+/// Adds empty rows to both lists, which are equally long, up to this number. If memory runs out,
+/// the rows added so far remain.
 fn add_rows(
     alloc: Global,
     period: Period,
@@ -44,9 +45,11 @@ fn add_rows(
 }
 
 impl Supports {
-    /// Makes sure of rows for so many places, and of room for each pair of them, in the trail and in the lists of what is put back.
-    /// Rows that come are empty, so nothing is seen of them; nor is of those that came before memory was wanting. For more places
-    /// than there are numbers of 32 bits, memory is wanting.
+    /// Adds rows up to this number of places, and room for each of their pairs in the trail and in
+    /// the lists of restored pairs.
+    ///
+    /// New rows are empty and change no domain, also if memory runs out after some of them. More
+    /// places than 32 bits can number count as out of memory.
     pub fn make_rows(
         &mut self,
         alloc: Global,
@@ -77,7 +80,7 @@ impl Supports {
         add_rows(alloc, self.period, places, rows, counted)
     }
 
-    /// Makes sure of counts for so many ends. Counts that come are 0.
+    /// Adds counts of 0 up to this number of ends.
     pub fn make_counts(&mut self, ends: usize) -> Result<(), AllocError>
         ensures ok { OnOk result (ends * (self.old).period ≤ length (self.new).counts) }
         ensures grown { IsRoomier self.old self.new }
@@ -90,7 +93,7 @@ impl Supports {
         self.counts.grow(long)
     }
 
-    /// Puts every residue into the rows of a place. The counts stay as they are.
+    /// Adds every residue to the rows of a place. The counts do not change.
     pub fn open(&mut self, place: usize)
         requires rows { place < length (self.old).rows }
         requires counted { place < length (self.old).counted }

@@ -1,4 +1,4 @@
-//! Residues of a place leave the counts or come to them, one alone or many together.
+//! Moves residues of a place out of the counts or into them, one alone or many together.
 
 ghost use Rattle.std.specs.Prelude.{◌≡◌, ◌<◌, ◌≤◌, ◌*◌, ◌+◌, ◌==◌, ◌&&◌, if◌then◌else◌, cond, ℕ, Bool, IsTrue, length};
 ghost use Rattle.std.specs.List.{Contains};
@@ -16,26 +16,28 @@ use crate::supports::Supports;
 use crate::{Placed, probes};
 use pesp_counts_arcs::{End, Links, Ranges};
 
-/// What moves at a place, of which the sums were made: a residue, or all that wait there.
+/// What moves at a place, with its sums made: one residue, or all that wait there.
 #[derive(Clone, Copy)]
 pub(crate) enum Moved {
     One(u16),
     Block,
 }
 
-/// Whether residues leave the counts, or come to them.
+/// Whether residues leave the counts or enter them.
 #[derive(Clone, Copy)]
 pub(crate) enum Way {
     Out,
     In,
 }
 
-/// From so many residues on, those of one place that wait move together: then one pass over a period costs less than one over a
-/// window for each of them.
+/// The least number of waiting residues of a place that move together: one pass over a period then
+/// costs less than one over a window for each of them. No measurement of other values is written
+/// down. docs/HISTORY.md has the cost without blocks under "Before blocks".
 pub(crate) const BLOCK: u16 = 4;
 
-/// Whether so many of the pairs are likely of one place. This decides only whether those that wait there are looked for, which costs
-/// more than one pair does.
+/// Whether the first `many` pairs are likely to be of one place, judged by the first and the last.
+/// This only decides whether to look for the residues waiting there, which costs more than moving
+/// one pair.
 pub(crate) fn begins_run(pairs: &[Placed], many: u16) -> bool
     requires { 0 < many }
 {
@@ -43,8 +45,8 @@ pub(crate) fn begins_run(pairs: &[Placed], many: u16) -> bool
     last < pairs.len() && pairs[last].place == pairs[0].place
 }
 
-/// The residues at the other event of an end that may have partners among those that move at its own.
-pub(crate) fn touched(moved: Moved, end: End, period: u16) -> Ranges
+/// The residues at the other event of an end that may have partners among those that move.
+pub(crate) fn touched_ranges(moved: Moved, end: End, period: u16) -> Ranges
     requires period { 2 * period < 65536 }
     requires one { IsOne period moved }
     requires first { end.first < period }
@@ -65,7 +67,7 @@ pub(crate) fn touched(moved: Moved, end: End, period: u16) -> Ranges
     }
 }
 
-/// Whether the end is one of those of the activity at a place.
+/// Whether the end is one of the activity at the spared place.
 pub(crate) fn is_spared_end(spared: Option<usize>, end: usize) -> bool
     ensures { result ≡ is_spared spared end }
 {
@@ -73,8 +75,8 @@ pub(crate) fn is_spared_end(spared: Option<usize>, end: usize) -> bool
 }
 
 impl Supports {
-    /// What moves with a pair that waits, with its sums: it alone, or all residues of its place that wait, where they are many. Only
-    /// for a pair of a run they are looked for.
+    /// What moves with a waiting pair, with its sums: the pair alone, or all residues waiting at
+    /// its place if they are many. They are looked for only in a run.
     pub(crate) fn moving_with(&mut self, pair: Placed, way: Way, in_run: bool) -> Moved
         requires place { pair.place < length (self.old).rows }
         requires residue { pair.residue < (self.old).period }
@@ -90,7 +92,8 @@ impl Supports {
         Moved::One(pair.residue)
     }
 
-    /// Moves the counts of a range of residues at an end that looks at what moves, each by how many of it are in its window.
+    /// Moves the counts of a range of residues at an end that refers to the moving place, each by
+    /// the number of moving residues in its window.
     pub(crate) fn move_range(&mut self, number: usize, end: End, way: Way, low: u16, high: u16)
         requires order { low ≤ high }
         requires high { high ≤ (self.old).period }
@@ -111,7 +114,7 @@ impl Supports {
         ensures probes { (self.new).probes + low ≤ (self.old).probes + high }
     {
         let base = self.counts.base(number, self.period.get());
-        probes::over(&mut self.probes, low, high);
+        probes::probe_range(&mut self.probes, low, high);
         let first = end.first as usize;
         let last = first + end.width as usize;
         let below = &self.sums[first + low as usize..first + high as usize];
@@ -139,12 +142,13 @@ impl Supports {
         let near = links.end(number);
         let mate = near.mate as usize;
         let far = links.end(mate);
-        let ranges = touched(moved, near, self.period.get());
+        let ranges = touched_ranges(moved, near, self.period.get());
         self.move_range(mate, far, way, ranges.start, ranges.end);
         self.move_range(mate, far, way, 0, ranges.wrapped);
     }
 
-    /// Moves the counts at all ends that look at a place, but for the spared ones, by what moves there.
+    /// Moves the counts at all ends that refer to a place, except the spared ones, by what moves
+    /// there.
     pub(crate) fn move_around(
         &mut self,
         links: &Links,
@@ -164,14 +168,15 @@ impl Supports {
         ensures probes { (self.new).probes ≤ (self.old).probes
             + (self.old).period * length (ends_of (links.now).lists place) }
     {
-        for number in links.at(place) {
+        for number in links.ends_at(place) {
             if !is_spared_end(spared, number) {
                 self.move_along(links, number, moved, way);
             }
         }
     }
 
-    /// Makes what is counted at a place what its row holds, of the residue that moved or of all.
+    /// Makes the counted row of a place equal to its row, at the residue that moved or at all of
+    /// them.
     pub(crate) fn level(&mut self, place: usize, moved: Moved)
         requires place { place < length (self.old).rows }
         requires one { IsOne (self.old).period moved }

@@ -1,15 +1,15 @@
-//! Looks at residues along activities, counted.
+//! Counts probes.
 //!
-//! A probe is a look at one residue along one activity. All code that looks along an activity counts its looks here. The number
-//! of probes stops at the greatest there is.
+//! A probe is a look at one residue along one activity. All code that looks along an activity
+//! counts its probes here. Their number saturates.
 
 ghost use Rattle.std.specs.Prelude.{◌≡◌, ◌+◌, ◌-◌, ◌≤◌, ◌<◌, min};
 ghost use Rattle.pesp_counts_supports.specs.Spent.{most_probes};
 
 use std::ops::Range;
 
-/// The residues from `low` on and below `high`, which are looked at now.
-pub(crate) fn over(probes: &mut u64, low: u16, high: u16) -> Range<u16>
+/// The residues from `low` on and below `high`, each counted as a probe.
+pub(crate) fn probe_range(probes: &mut u64, low: u16, high: u16) -> Range<u16>
     requires { low ≤ high }
     ensures range { result ≡ record { start = low; end = high } }
     ensures counted { probes.new ≡ min (probes.old + (high - low)) most_probes }

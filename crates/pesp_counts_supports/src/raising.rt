@@ -1,4 +1,4 @@
-//! Pairs are put back, with the counts for them.
+//! Restores the pairs of the trail, with their counts.
 
 ghost use Rattle.std.specs.Prelude.{◌≡◌, ◌<◌, ◌≤◌, ◌||◌, ◌++◌, ◌∷◌, [], drop, take, false, ℕ, List, All, length};
 ghost use Rattle.pesp_counts_supports.specs.Counts.{has_at};
@@ -11,7 +11,7 @@ use crate::supports::Supports;
 use pesp_counts_arcs::Links;
 use pesp_domains::Row;
 
-/// Puts the pairs of a list into the rows.
+/// Adds the pairs of a list to the rows.
 fn put_all(rows: &mut Vec<Row>, pairs: &[Placed])
     requires within { All (λ x. x.place < length rows.old.items) pairs.now }
     requires below { (long : ℕ) × All (λ row. length row ≡ long) rows.old.items
@@ -28,7 +28,7 @@ fn put_all(rows: &mut Vec<Row>, pairs: &[Placed])
 }
 
 impl Supports {
-    /// Puts the pairs of the trail from a mark on back, with the counts for them.
+    /// Restores the pairs of the trail from a mark on, with their counts.
     pub fn put_back(&mut self, links: &Links, mark: usize)
         requires fit { Fit links.now self.old }
         requires exact { AreExact links.now self.old (has_at (self.old).counted) }
@@ -42,14 +42,14 @@ impl Supports {
         ensures trail { (self.new).trail ≡ take mark (self.old).trail }
         ensures shape { HaveSameShape self.old self.new }
     {
-        // They wait to be counted in: they are in what is counted before the counts have them.
+        // They wait in `counted` before the counts include them, so a pop needs no memory.
         put_all(&mut self.counted, &self.trail[mark..]);
         while self.trail.len() > mark {
             self.put_last(links, mark);
         }
     }
 
-    /// Puts the last pair of the trail into the rows; where it still waits, it is counted in first.
+    /// Restores the last pair of the trail to the rows. If it still waits, it is counted in first.
     fn put_last(&mut self, links: &Links, mark: usize)
         requires fit { Fit links.now self.old }
         requires returning { AreReturning links.now self.old mark }

@@ -1,4 +1,4 @@
-//! Pairs that an edit reaches are put back, with the counts for them.
+//! Restores the pairs that an edit reaches, with their counts.
 
 ghost use Rattle.std.specs.Prelude.{◌≡◌, ◌<◌, ◌≤◌, ◌*◌, ◌+◌, ◌-◌, ℕ, [], All, length, vec_capacity};
 ghost use Rattle.pesp_counts_supports.specs.Counts.{has_at};
@@ -14,8 +14,8 @@ use pesp_counts_arcs::Links;
 use pesp_instance::Instance;
 
 impl Supports {
-    /// Puts the pairs back that are reached from these places, with the counts for them. The ends of the spared activity are left
-    /// out.
+    /// Restores the pairs that are reached from these places, with their counts. The spared
+    /// activity is left out.
     pub fn restore(
         &mut self,
         instance: &Instance,
@@ -41,14 +41,16 @@ impl Supports {
             ≤ (self.old).probes + (2 * (self.old).period - 1) * ends_at links.now back.new.items
             + (self.old).period * length back.new.items }
     {
-        // That a period is at least 1 is known of an instance that was read.
+        // Reading the instance makes its invariant known: the period is at least 1.
         let _period = instance.period();
         self.bring_starts(instance, links, starts, back);
         let mut next = 0;
         while next < back.len() {
             let pair = back[next];
             let place = pair.place as usize;
-            // A block costs a look at each residue of the period, and a pair one at each residue of a window.
+            // A block probes each residue of the period, a single pair only those of its windows,
+            // so the run grows with the period. docs/HISTORY.md has the cost of blocks for single
+            // pairs under "Before blocks". No measurement is written down for a sixteenth.
             let in_run = begins_run(&back[next..], self.period.get() / 16 + 1);
             next += 1;
             if !self.has_counted(place, pair.residue) {

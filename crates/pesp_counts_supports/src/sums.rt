@@ -1,4 +1,4 @@
-//! Sums of the residues that move: how many of them a window holds is the difference of two.
+//! Prefix sums of the residues that move: the number of them in a window is the difference of two.
 
 ghost use Rattle.std.specs.Prelude.{◌≡◌, ◌<◌, ◌≤◌, ◌*◌, ◌+◌, ◌==◌, ℕ, length, slice_index_or};
 ghost use Rattle.pesp_base.specs.Limits.{greatest_period};
@@ -9,7 +9,7 @@ use crate::moving::Way;
 use crate::supports::Supports;
 use pesp_domains::Row;
 
-/// Goes on with the sums of one period through two more, in each of which as many residues are.
+/// Extends the sums of one period over two more, each with the same number of residues.
 fn sum_on(sums: &mut [u16], period: u16, many: u16)
     requires period { period ≤ greatest_period }
     requires some { 0 < period }
@@ -28,8 +28,9 @@ fn sum_on(sums: &mut [u16], period: u16, many: u16)
     }
 }
 
-/// Makes the sums of the residues that the one row holds, of all or of those that the other lacks, and tells how many they are.
-// Each call says by a constant which, so that the choice is none of the loop.
+/// Computes the sums of the residues of a row, of all or of those that the other row lacks, and
+/// returns their number.
+// Each caller passes `all` as a constant, so inlining removes the choice from the loop.
 #[inline(always)]
 pub(crate) fn sum_beyond(row: &Row, other: &Row, all: bool, period: u16, sums: &mut [u16]) -> u16
     requires period { period ≤ greatest_period }
@@ -52,7 +53,7 @@ pub(crate) fn sum_beyond(row: &Row, other: &Row, all: bool, period: u16, sums: &
     many
 }
 
-/// Makes the sums of one residue alone.
+/// Computes the sums of one residue alone.
 pub(crate) fn sum_one(residue: u16, period: u16, sums: &mut [u16])
     requires period { period ≤ greatest_period }
     requires residue { residue < period }
@@ -67,7 +68,8 @@ pub(crate) fn sum_one(residue: u16, period: u16, sums: &mut [u16])
 }
 
 impl Supports {
-    /// Makes the sums of the residues at a place that wait to leave the counts or to come to them, and tells how many they are.
+    /// Computes the sums of the residues at a place that wait to leave the counts or to enter them,
+    /// and returns their number.
     pub(crate) fn sum_waiting(&mut self, place: usize, way: Way) -> u16
         requires place { place < length (self.old).rows }
         ensures sums { AreSums (self.old).period (waiting_at way self.old place) (self.new).sums }

@@ -1,4 +1,4 @@
-//! Counts of partners, the rows that they belong to, and the trail of what was taken out.
+//! Support counts, the rows that they belong to, and the trail of removed pairs.
 
 ghost use Rattle.std.specs.Prelude.{◌≡◌, ◌<◌, ◌≤◌, ◌*◌, ◌+◌, ◌==◌, ◌&&◌, ◌||◌, not, nat_lt, ℕ, [], IsTrue, length, slice_index_or, take, drop, OnOk, OnErr};
 ghost use Rattle.pesp_domains.specs.Sweeps.{Of, limited};
@@ -14,26 +14,27 @@ use pesp_domains::Row;
 use std::alloc::{AllocError, Global};
 use std::marker::Model;
 
-/// Rows by place and the counts of their partners.
+/// Rows by place, and the counts of partners in them.
 ///
-/// The counts are those of `counted`, the rows as the counts have seen them. A pair that was taken out of the rows stands in
-/// the trail, and waits there until it is counted out. With nothing waiting both hold the same pairs.
+/// The counts are those of `counted`, the rows as the counts know them. A pair that was removed
+/// from the rows is in the trail, and waits there until it is counted out. When nothing waits, both
+/// hold the same pairs.
 #[derive(Drop)]
 pub struct Supports {
     // Each row has a test for each residue below it.
     pub(crate) period: Period,
-    // By end, then residue: those of `counted`.
+    // By end, then residue, for `counted`.
     pub(crate) counts: Counts,
-    // By place, as many as `rows`; a pair that waits to be counted out is still here.
+    // By place, as many as `rows`. A pair that waits to be counted out is still here.
     pub(crate) counted: Vec<Row>,
-    // By place; no more than a pair of 32 bits can name.
+    // By place; no more than a pair can name in 32 bits.
     pub(crate) rows: Vec<Row>,
-    // What was taken out, the oldest first; there is room for every pair of the rows.
+    // The removed pairs, the oldest first. There is room for every pair of the rows.
     pub(crate) trail: Vec<Placed>,
-    // Those of the block that moves, or of one that moved before. Where there is a row, there is one for each residue of three
-    // periods, and one more.
+    // The sums of what moves, or of what moved last. If there is a row, they are one for each
+    // residue of three periods and one more, so that no window wraps.
     pub(crate) sums: Vec<u16>,
-    // Those made since the trail was forgotten.
+    // The number of probes since the trail was cleared.
     pub(crate) probes: u64,
 }
 
@@ -49,7 +50,7 @@ impl Model for Supports {
 }
 
 impl Supports {
-    /// No row and no count.
+    /// No rows and no counts.
     pub fn new(alloc: Global, period: Period) -> Supports
         ensures { result ≡ no_supports period }
     {
@@ -90,14 +91,14 @@ impl Supports {
         self.counts.get(base + residue as usize)
     }
 
-    /// How many pairs stand in the trail.
+    /// The number of pairs in the trail.
     pub fn mark(&self) -> usize
         ensures { result ≡ length (self.now).trail }
     {
         self.trail.len()
     }
 
-    /// How many probes were made since the trail was forgotten.
+    /// The number of probes since the trail was cleared.
     pub fn probes(&self) -> u64
         ensures { result ≡ (self.now).probes }
     {

@@ -1,4 +1,4 @@
-//! Pairs are taken out as the counts of their partners fall to none.
+//! Removes pairs without a partner, as their counts fall to 0.
 
 ghost use Rattle.std.specs.Prelude.{◌≡◌, ◌<◌, ◌≤◌, ◌*◌, ◌+◌, ◌==◌, ◌&&◌, not, cond, ℕ, false, [], IsTrue, drop, length, slice_index_or};
 ghost use Rattle.std.specs.List.{Contains};
@@ -14,7 +14,7 @@ ghost use Rattle.pesp_counts_supports.specs.Supports.{AreExact, Fit, HaveSameSha
 ghost use Rattle.pesp_counts_supports.specs.Spent.{ends_at};
 
 use crate::bringing::ranges_of;
-use crate::moving::{BLOCK, Moved, Way, begins_run, touched};
+use crate::moving::{BLOCK, Moved, Way, begins_run, touched_ranges};
 use crate::supports::Supports;
 use crate::{Placed, probes};
 use pesp_base::Window;
@@ -22,7 +22,8 @@ use pesp_counts_arcs::Links;
 use std::ops::Range;
 
 impl Supports {
-    /// Counts each pair of the trail from `next` on out, and takes the pairs out that are left without a partner.
+    /// Counts out each pair of the trail from `next` on, and removes the pairs left without a
+    /// partner.
     pub fn settle(&mut self, links: &Links, next: usize)
         requires fit { Fit links.now self.old }
         requires pending { AreWaiting (self.old).period links.now self.old next }
@@ -42,7 +43,8 @@ impl Supports {
         }
     }
 
-    /// Counts one pair of the trail out, if it still counts, alone or with others of its place that wait.
+    /// Counts out one pair of the trail if it still counts, alone or with others that wait at its
+    /// place.
     fn settle_one(&mut self, links: &Links, next: usize)
         requires fit { Fit links.now self.old }
         requires pending { AreWaiting (self.old).period links.now self.old next }
@@ -66,18 +68,20 @@ impl Supports {
             let leaving = self.moving_with(pair, Way::Out, in_run);
             self.move_around(links, None, place, leaving, Way::Out);
             self.level(place, leaving);
+            // A second loop over the ends. Skipping it where no count fell to 0 measured no better:
+            // docs/HISTORY.md, "Counts move in one way".
             self.sift_around(links, place, leaving);
         }
     }
 
-    /// Whether the pair is one that the counts have seen.
+    /// Whether the counts include the pair.
     pub(crate) fn has_counted(&self, place: usize, residue: u16) -> bool
         ensures { result ≡ has_at (self.now).counted place residue }
     {
         place < self.counted.len() && self.counted[place].holds(residue)
     }
 
-    /// Takes the pairs out that are left without a partner at the ends that look at a place, of which residues left.
+    /// Removes the pairs without a partner at the ends that refer to a place which residues left.
     fn sift_around(&mut self, links: &Links, place: usize, left: Moved)
         requires fit { Fit links.now self.old }
         requires one { IsOne (self.old).period left }
@@ -90,12 +94,13 @@ impl Supports {
         ensures closed { KeepsAllClosed links.now self.old self.new }
         ensures takes { OnlyTakes self.old self.new }
     {
-        for number in links.at(place) {
+        for number in links.ends_at(place) {
             self.sift_along(links, number, left);
         }
     }
 
-    /// Takes the pairs at the far place of an activity out that are left without a partner, of which residues left the near one.
+    /// Removes the pairs without a partner at the far place of an activity whose near place
+    /// residues left.
     fn sift_along(&mut self, links: &Links, number: usize, left: Moved)
         requires fit { Fit links.now self.old }
         requires one { IsOne (self.old).period left }
@@ -108,13 +113,13 @@ impl Supports {
         ensures takes { OnlyTakes self.old self.new }
     {
         let end = links.end(number);
-        let ranges = touched(left, end, self.period.get());
+        let ranges = touched_ranges(left, end, self.period.get());
         let (place, mate) = (end.looks_at as usize, end.mate as usize);
         self.sift_range(place, mate, ranges.start..ranges.end);
         self.sift_range(place, mate, 0..ranges.wrapped);
     }
 
-    /// Takes those of a range of residues at a place out that have no partner at an end.
+    /// Removes the residues of a range at a place that have no partner at an end.
     fn sift_range(&mut self, place: usize, end: usize, residues: Range<u16>)
         requires place { place < length (self.old).rows }
         requires end { end * (self.old).period + (self.old).period ≤ length (self.old).counts }
@@ -133,7 +138,9 @@ impl Supports {
         }
     }
 
-    /// The first residue of a range at a place that has no partner at an end.
+    /// The first residue of a range at a place that has no partner at an end. Row and counts are
+    /// read as slices, which is cheaper than one call a residue: docs/HISTORY.md, "Edits along
+    /// slices".
     fn first_lone(&self, place: usize, end: usize, from: u16, to: u16) -> Option<u16>
         requires place { place < length (self.now).rows }
         requires end { end * (self.now).period + (self.now).period ≤ length (self.now).counts }
@@ -148,7 +155,7 @@ impl Supports {
         Some(from + ahead as u16)
     }
 
-    /// Takes all residues at a place but one out.
+    /// Removes all residues at a place but one.
     pub fn limit(&mut self, place: usize, residue: u16)
         requires { place < length (self.old).rows }
         ensures rows { (p r : ℕ) → has_at (self.new).rows p r
@@ -164,7 +171,7 @@ impl Supports {
         }
     }
 
-    /// Takes the residues at a place out that are not in a window.
+    /// Removes the residues at a place that are not in a window.
     pub fn limit_to(&mut self, place: usize, window: Window)
         requires { place < length (self.old).rows }
         ensures rows { (p r : ℕ) → has_at (self.new).rows p r
@@ -178,7 +185,7 @@ impl Supports {
         self.limit_range(place, left.end..self.period.get());
     }
 
-    /// Takes a range of residues at a place out.
+    /// Removes a range of residues at a place.
     fn limit_range(&mut self, place: usize, residues: Range<u16>)
         requires place { place < length (self.old).rows }
         requires order { residues.start ≤ residues.end }
@@ -194,7 +201,7 @@ impl Supports {
         }
     }
 
-    /// Takes the residues at a place out that have no partner at an end.
+    /// Removes the residues at a place that have no partner at an end.
     pub fn sift(&mut self, place: usize, end: usize)
         requires place { place < length (self.old).rows }
         requires end { end * (self.old).period + (self.old).period ≤ length (self.old).counts }
@@ -206,11 +213,11 @@ impl Supports {
         ensures probes { (self.new).probes ≤ (self.old).probes + (self.old).period }
         ensures counts_on { (self.old).probes ≤ (self.new).probes }
     {
-        let residues = probes::over(&mut self.probes, 0, self.period.get());
+        let residues = probes::probe_range(&mut self.probes, 0, self.period.get());
         self.sift_range(place, end, residues);
     }
 
-    /// Takes the pairs of a list out that are left without a partner, and of the other pairs those that are then.
+    /// Removes the pairs of a list that have no partner, and then all other pairs left without one.
     pub fn settle_back(&mut self, links: &Links, back: &[Placed])
         requires fit { Fit links.now self.old }
         requires pending { ArePendingBut links.now self.old back.now }
@@ -227,7 +234,7 @@ impl Supports {
         self.settle(links, 0);
     }
 
-    /// Takes the pairs of a list out that have a count of 0 at an end at their place.
+    /// Removes the pairs of a list that have a count of 0 at an end of their place.
     fn sift_back(&mut self, links: &Links, back: &[Placed])
         requires fit { Fit links.now self.old }
         requires below { (p r : ℕ) → Of (has_at (self.old).rows) p r → r < (self.old).period }
@@ -247,7 +254,7 @@ impl Supports {
         }
     }
 
-    /// Whether a pair has a count of 0 at an end at its place.
+    /// Whether a pair has a count of 0 at an end of its place.
     fn lacks_partner(&mut self, links: &Links, pair: Placed) -> bool
         requires fit { Fit links.now self.old }
         requires residue { pair.residue < (self.old).period }
@@ -257,8 +264,8 @@ impl Supports {
             ≤ (self.old).probes + length (ends_of (links.now).lists pair.place) }
         ensures counts_on { (self.old).probes ≤ (self.new).probes }
     {
-        for end in links.at(pair.place as usize) {
-            probes::over(&mut self.probes, pair.residue, pair.residue + 1);
+        for end in links.ends_at(pair.place as usize) {
+            probes::probe_range(&mut self.probes, pair.residue, pair.residue + 1);
             if self.count(end, pair.residue) == 0 {
                 return true;
             }
@@ -266,8 +273,8 @@ impl Supports {
         false
     }
 
-    /// Takes a pair out of the rows. It then stands at the end of the trail.
-    // Few of the counts that are looked at take a pair out.
+    /// Removes a pair from the rows, and appends it to the trail.
+    // Few of the counts that are read remove a pair.
     #[cold]
     #[inline(never)]
     fn take_out(&mut self, place: usize, residue: u16)
@@ -283,7 +290,7 @@ impl Supports {
         });
     }
 
-    /// Forgets the trail, and begins to count probes anew.
+    /// Clears the trail, and resets the number of probes.
     pub fn forget(&mut self)
         ensures rows { (self.new).rows ≡ (self.old).rows }
         ensures counted { (self.new).counted ≡ (self.old).counted }

@@ -1,11 +1,11 @@
 //! Pairs by place.
 
-/// A pair, by the place of its event. There are never so many rows that the number of one wants more than 32 bits.
+/// A pair, by the place of its event, which fits 32 bits.
 #[derive(Clone, Copy, Debug, PartialEq, Eq)]
 pub struct Placed {
     pub place: u32,
     pub residue: u16,
 }
 
-/// Pairs that came back, in the order in which they came.
+/// Restored pairs, in the order in which they returned.
 pub type Back = Vec<Placed>;

@@ -4,7 +4,7 @@ ghost use Rattle.std.specs.Prelude.{◌≡◌, ℕ, ◌+◌, ◌<◌, ◌≤◌,
 ghost use Rattle.pesp_counts_supports.specs.Counted.{AreShifted, CanShift};
 ghost use Rattle.pesp_counts_supports.specs.Lone.{is_lone};
 
-/// Moves each count from one on by the difference of two sums, of counts of one byte.
+/// Changes the one-byte counts from an index on: each falls by its `down`, and rises by its `up`.
 // The loop has no branch, so that several counts change at once.
 pub(crate) fn shift_bytes(bytes: &mut [u8], from: usize, down: &[u16], up: &[u16])
     requires within { from + length down.now ≤ length bytes.old }
@@ -18,7 +18,7 @@ pub(crate) fn shift_bytes(bytes: &mut [u8], from: usize, down: &[u16], up: &[u16
     }
 }
 
-/// Moves each count from one on by the difference of two sums, of counts of two bytes.
+/// Changes the two-byte counts from an index on: each falls by its `down`, and rises by its `up`.
 // The loop has no branch, so that several counts change at once.
 pub(crate) fn shift_words(words: &mut [u16], from: usize, down: &[u16], up: &[u16])
     requires within { from + length down.now ≤ length words.old }
@@ -32,8 +32,8 @@ pub(crate) fn shift_words(words: &mut [u16], from: usize, down: &[u16], up: &[u1
     }
 }
 
-/// Whether some residue is held and has no partner, by counts of one byte. That none is may be relied upon.
-// The loop has no branch, so that several counts are looked at together.
+/// Whether a held residue may have no partner, by counts of one byte. If not, none has.
+// The loop has no branch, so that several counts are read at once.
 pub(crate) fn may_be_lone_byte(held: &[bool], counts: &[u8]) -> bool
     requires { length counts.now ≡ length held.now }
     ensures { result ≡ false → (r : ℕ) → r < length held.now
@@ -46,8 +46,8 @@ pub(crate) fn may_be_lone_byte(held: &[bool], counts: &[u8]) -> bool
     any
 }
 
-/// Whether some residue is held and has no partner, by counts of two bytes. That none is may be relied upon.
-// The loop has no branch, so that several counts are looked at together.
+/// Whether a held residue may have no partner, by counts of two bytes. If not, none has.
+// The loop has no branch, so that several counts are read at once.
 pub(crate) fn may_be_lone_word(held: &[bool], counts: &[u16]) -> bool
     requires { length counts.now ≡ length held.now }
     ensures { result ≡ false → (r : ℕ) → r < length held.now

@@ -1,6 +1,8 @@
-//! The domains of an instance, arc consistent: for each event the residues that are left when pairs without a partner go,
-//! again and again. The trait of what keeps them while edits are made and pairs are pushed and popped,
-//! and a plain keeper.
+//! The arc-consistent domains of an instance: the residues of each event that remain when pairs
+//! without a partner are removed until there are none.
+//!
+//! A trait for keepers of domains, while edits are made and pairs are pushed and popped, and a
+//! plain keeper.
 #![tactic(auto)]
 
 mod keeper;

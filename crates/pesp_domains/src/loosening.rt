@@ -1,4 +1,4 @@
-//! Whether a change of a window or of a span lets in what was not let in before.
+//! Whether a change of a window or of a span admits something new.
 
 ghost use Rattle.std.specs.Prelude.{◌≡◌, ℕ, ◌+◌, ◌%◌, ◌<◌, ◌↔◌, IsTrue, None, Some};
 ghost use Rattle.pesp_base.specs.Bounds.{Bounds};
@@ -10,7 +10,7 @@ use crate::reach::{remainder, width_of};
 use pesp_base::{ActivityId, EventId, Period, Span};
 use pesp_instance::{Event, Instance};
 
-/// The residue that is so many steps up from this time.
+/// The residue that is `ahead` steps up from this time.
 fn residue_ahead(period: Period, first: u16, ahead: u16) -> u16
     ensures { result ≡ (first + ahead) % period }
 {
@@ -29,7 +29,7 @@ fn event_now(instance: &Instance, event: EventId) -> Event
     }
 }
 
-/// Whether the event may stand at one of these residues, `length` from `first` on, at which it may not now.
+/// Whether the event's window excludes one of the `length` residues from `first` on.
 pub fn window_admits_anew(instance: &Instance, event: EventId, first: u16, length: u16) -> bool
     ensures { result ≡ admits_anew instance.now
         (rewindowed instance.now event (Some (record { first = first; length = length }))) event }
@@ -42,7 +42,7 @@ pub fn window_admits_anew(instance: &Instance, event: EventId, first: u16, lengt
     ))
 }
 
-/// Whether there is a residue at which the event may not stand now.
+/// Whether the event's window excludes some residue.
 pub fn is_limited(instance: &Instance, event: EventId) -> bool
     ensures { result ≡ admits_anew instance.now (rewindowed instance.now event None) event }
 {
@@ -51,8 +51,8 @@ pub fn is_limited(instance: &Instance, event: EventId) -> bool
     (0..period.get()).any(|residue| !old.admits(period, residue))
 }
 
-/// Whether the second span admits a pair of residues that the first one does not: what a span admits with
-/// one residue is a window around the period.
+/// Whether the second span admits a pair of residues that the first one does not. For one residue,
+/// a span admits a window of the other event, so two windows are compared.
 fn span_admits_more(period: Period, old: Span, new: Span) -> bool
     ensures { result ≡ admits_more period old new }
 {
@@ -62,7 +62,7 @@ fn span_admits_more(period: Period, old: Span, new: Span) -> bool
     old_width < period.get() && old_width < ahead + new_width
 }
 
-/// Whether the activity has another span, which admits more.
+/// Whether the span admits more than the one that the activity has.
 pub fn is_looser(instance: &Instance, id: ActivityId, span: Span) -> bool
     ensures { result ≡ is_looser instance.now id span }
 {
@@ -72,7 +72,8 @@ pub fn is_looser(instance: &Instance, id: ActivityId, span: Span) -> bool
     }
 }
 
-/// A span admits more than another exactly where some residues of the two events are admitted by it, and not by the other one.
+/// A span admits more than another if and only if it admits two residues of the events that the
+/// other does not.
 pub fn law_of_wider_spans()
     ensures { (period : ℕ) (old new : Bounds) → 0 < period → IsTrue (admits_more period old new)
         ↔ AdmitsNewPair period old new }

@@ -1,4 +1,4 @@
-//! The keeper that sweeps over everything until nothing is taken out: arc consistency as AC-1 makes it.
+//! The keeper that sweeps over all activities until nothing is removed: arc consistency by AC-1.
 
 ghost use Rattle.std.specs.Prelude.{◌≡◌, ◌≤◌, ℕ, [], IfOk, OnOk, OnErr, length, vec_capacity, Ok, Err, Some, true, replicate};
 ghost use Rattle.pesp_domains.specs.Rows.{AreRowsOf, SetsRow};
@@ -13,17 +13,17 @@ use std::marker::Model;
 
 /// Keeps the domains by repeated sweeps over all activities.
 ///
-/// It is plain and slow: an edit and a pop begin again with full rows, and a push goes on from the rows
-/// that there are.
+/// It is slow, for reading and for comparison: an edit and a pop restart from full rows. A push
+/// continues from the present ones.
 #[derive(Drop)]
 pub struct PlainKeeper {
-    // That of which the rows are the domains.
+    // The instance that the rows are the domains of.
     instance: Instance,
-    // Each of another event; there is room for as many as there are events.
+    // No event occurs twice. There is room for as many as there are events.
     pushed: Vec<Pair>,
     // The domains under the pushed pairs.
     rows: Rows,
-    // How many pairs were pushed, those that were popped included.
+    // The number of pushes, popped ones included. It saturates.
     push_count: u64,
 }
 
@@ -53,8 +53,8 @@ fn rows_of(alloc: Global, instance: &Instance) -> Result<Rows, AllocError>
     Ok(rows)
 }
 
-/// Makes room for a pushed pair for each event and a row for a new one. Without the memory for it, the
-/// rows stay.
+/// Reserves room for a pushed pair for each event, and makes a row for a new one. If memory runs
+/// out, no row changes.
 fn make_room(
     pushed: &mut Vec<Pair>,
     rows: &mut Rows,

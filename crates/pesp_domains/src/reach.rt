@@ -1,4 +1,5 @@
-//! Which residues at one end of an activity go with one at the other: from which on, and how many.
+//! The residues that an activity admits at one end for one at the other: the first, and their
+//! number.
 
 ghost use Rattle.std.specs.Prelude.{◌≡◌, ◌+◌, ◌<◌, ◌≤◌};
 ghost use Rattle.pesp_base.specs.Residues.{reach};
@@ -14,7 +15,7 @@ pub fn remainder(number: i32, period: Period) -> u16
     number.rem_euclid(period.get() as i32) as u16
 }
 
-/// How many residues at one end of an activity go with one at the other.
+/// The number of residues that an activity admits at one end for one residue at the other.
 pub fn width_of(period: Period, span: Span) -> u16
     ensures value { result ≡ reach period span + 1 }
     ensures within { result ≤ period }

@@ -10,10 +10,11 @@ use pesp_base::{Period, Window};
 use std::alloc::{AllocError, Global};
 use std::marker::Model;
 
-/// A set of residues, seen as a test for each residue below the period.
+/// A set of residues. The model is a list with a truth value for each residue below the period.
 #[derive(Drop)]
 pub struct Row {
-    // One for each residue below the period, no more than the greatest period.
+    // One for each residue below the period. Bits would have saved 2 of 41 MB of the greatest
+    // network: docs/HISTORY.md, "Before blocks".
     tests: Vec<bool>,
 }
 
@@ -45,7 +46,7 @@ impl Row {
         Ok(Row { tests })
     }
 
-    /// The period, below which the residues are.
+    /// The period. All residues are below it.
     fn period(&self) -> u16
         ensures { result ≡ length self.now }
     {
@@ -67,7 +68,7 @@ impl Row {
         place < self.tests.len() && self.tests[place]
     }
 
-    /// How many residues the set has.
+    /// The number of residues in the set.
     pub fn len(&self) -> usize
         ensures { result ≡ length (residues self.now) }
     {
@@ -76,21 +77,21 @@ impl Row {
             .count()
     }
 
-    /// The least residue of the set that is not below the given one.
+    /// The least residue of the set that is not below `residue`.
     pub fn next_from(&self, residue: u16) -> Option<u16>
         ensures { result ≡ find (λ r. nat_le residue r) (residues self.now) }
     {
         self.first_between(residue, self.period())
     }
 
-    /// The least residue of the set from one on and below another.
+    /// The least residue of the set from `low` on and below `high`.
     fn first_between(&self, low: u16, high: u16) -> Option<u16>
         ensures { result ≡ find (holds self.now) (range_with_len low (high - low)) }
     {
         (low..high).find(|residue| self.holds(*residue))
     }
 
-    /// Takes a residue out.
+    /// Removes a residue.
     pub fn take_out(&mut self, residue: u16)
         ensures long { length self.new ≡ length self.old }
         ensures holds { (r : ℕ) → holds self.new r ≡ (holds self.old r && not (r == residue)) }
@@ -100,7 +101,7 @@ impl Row {
         }
     }
 
-    /// Puts a residue below the period in.
+    /// Adds a residue below the period.
     pub fn put_in(&mut self, residue: u16)
         requires { residue < length self.old }
         ensures long { length self.new ≡ length self.old }
@@ -110,7 +111,7 @@ impl Row {
         self.tests[place] = true;
     }
 
-    /// Takes all other residues out.
+    /// Removes all other residues.
     pub(crate) fn keep_only(&mut self, residue: u16)
         ensures long { length self.new ≡ length self.old }
         ensures holds { (r : ℕ) → holds self.new r ≡ (holds self.old r && r == residue) }
@@ -122,7 +123,7 @@ impl Row {
         }
     }
 
-    /// Takes all residues out that are not in a window of the period.
+    /// Removes all residues that are not in a window of the period.
     fn keep_window(&mut self, period: Period, window: Window)
         requires { period ≡ length self.old }
         ensures long { length self.new ≡ length self.old }
@@ -135,7 +136,7 @@ impl Row {
         }
     }
 
-    /// Puts all residues in.
+    /// Adds all residues.
     pub fn fill(&mut self)
         ensures long { length self.new ≡ length self.old }
         ensures holds { (r : ℕ) → holds self.new r ≡ nat_lt r (length self.old) }
@@ -143,7 +144,7 @@ impl Row {
         self.tests.fill(true);
     }
 
-    /// Puts all residues of the period in, or those of the window alone.
+    /// Makes the row all residues of the period, or those of the window alone.
     pub fn open(&mut self, period: Period, window: Option<Window>)
         requires { period ≡ length self.old }
         ensures long { length self.new ≡ length self.old }

@@ -12,9 +12,9 @@ use std::marker::Model;
 /// A row for each of some events.
 #[derive(Drop)]
 pub struct Rows {
-    // By the event's number.
+    // The row of each event, by its number.
     rows: BTreeMap<u32, Row>,
-    // Where the rows have their memory from.
+    // Allocates the rows.
     alloc: Global,
 }
 
@@ -54,7 +54,7 @@ impl Rows {
         }
     }
 
-    /// Gives the event a row of all residues. Without the memory for it, nothing changes.
+    /// Gives the event a row of all residues. If memory runs out, nothing changes.
     pub fn insert(&mut self, event: EventId, period: Period) -> Result<(), AllocError>
         ensures ok { OnOk result (SetsRow event (Some (replicate period true)) self.old self.new) }
         ensures err { OnErr result (self.new ≡ self.old) }
@@ -64,14 +64,14 @@ impl Rows {
         Ok(())
     }
 
-    /// Takes the row of the event away.
+    /// Removes the event's row.
     pub fn remove(&mut self, event: EventId)
         ensures { SetsRow event None self.old self.new }
     {
         self.rows.remove(&event.get());
     }
 
-    /// Takes a pair out.
+    /// Removes a pair.
     pub fn take_out(&mut self, event: EventId, residue: u16)
         ensures shape { HaveSameShape self.old self.new }
         ensures has { TakesOut event residue self.old self.new }
@@ -81,7 +81,7 @@ impl Rows {
         }
     }
 
-    /// Takes the other residues of the event out.
+    /// Removes the other residues of the event.
     pub fn keep_only(&mut self, event: EventId, residue: u16)
         ensures shape { HaveSameShape self.old self.new }
         ensures has { KeepsOnly event residue self.old self.new }
@@ -91,7 +91,7 @@ impl Rows {
         }
     }
 
-    /// Puts all residues of the event in, or those of the window alone.
+    /// Makes the event's row all residues, or those of the window alone.
     pub fn open(&mut self, period: Period, event: EventId, window: Option<Window>)
         requires { IfSome (row_at self.old event) (λ row. period ≡ length row) }
         ensures shape { HaveSameShape self.old self.new }

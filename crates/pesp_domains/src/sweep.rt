@@ -56,7 +56,8 @@ fn is_alone(period: Period, activity: &Activity, side: Side, residue: u16, rows:
     }
 }
 
-/// Takes out each pair at one end of the activity that has no partner. Says whether there was one.
+/// Removes each pair at one end of the activity that has no partner, and returns whether there was
+/// one.
 fn narrow(instance: &Instance, activity: &Activity, side: Side, rows: &mut Rows) -> bool
     requires { Contains instance.now.activities activity.now }
     ensures shape { HaveSameShape rows.old rows.new }
@@ -76,7 +77,7 @@ fn narrow(instance: &Instance, activity: &Activity, side: Side, rows: &mut Rows)
     changed
 }
 
-/// Narrows both ends of the activity. Says whether a pair was taken out.
+/// Narrows both ends of the activity, and returns whether a pair was removed.
 fn narrow_both(instance: &Instance, activity: &Activity, rows: &mut Rows) -> bool
     requires { Contains instance.now.activities activity.now }
     ensures shape { HaveSameShape rows.old rows.new }
@@ -89,7 +90,7 @@ fn narrow_both(instance: &Instance, activity: &Activity, rows: &mut Rows) -> boo
     tail | head
 }
 
-/// Narrows both ends of each activity once. Says whether a pair was taken out.
+/// Narrows both ends of each activity once, and returns whether a pair was removed.
 fn sweep(instance: &Instance, rows: &mut Rows) -> bool
     ensures shape { HaveSameShape rows.old rows.new }
     ensures pass { IsPass instance.now (has rows.old) (has rows.new) result }
@@ -106,7 +107,7 @@ fn sweep(instance: &Instance, rows: &mut Rows) -> bool
     changed
 }
 
-/// Sweeps until nothing is taken out.
+/// Sweeps until nothing is removed.
 pub fn settle(instance: &Instance, rows: &mut Rows)
     ensures shape { HaveSameShape rows.old rows.new }
     ensures settles { Settles instance.now (has rows.old) (has rows.new) }
@@ -114,7 +115,7 @@ pub fn settle(instance: &Instance, rows: &mut Rows)
     while sweep(instance, rows) {}
 }
 
-/// Puts every residue into the rows that is in the window of its event.
+/// Makes each row the residues in the window of its event.
 fn open_events(instance: &Instance, rows: &mut Rows)
     requires { AreRowsOf instance.now rows.old }
     ensures shape { HaveSameShape rows.old rows.new }
@@ -127,7 +128,7 @@ fn open_events(instance: &Instance, rows: &mut Rows)
     }
 }
 
-/// Puts every residue into the rows that is in the window of its event and agrees with the pushed pairs.
+/// Makes each row the residues in the window of its event that agree with the pushed pairs.
 fn open_rows(instance: &Instance, pushed: &[Pair], rows: &mut Rows)
     requires { AreRowsOf instance.now rows.old }
     ensures shape { HaveSameShape rows.old rows.new }
@@ -140,7 +141,7 @@ fn open_rows(instance: &Instance, pushed: &[Pair], rows: &mut Rows)
     }
 }
 
-/// Makes the rows the domains, whatever they were.
+/// Makes the rows the domains, whatever they are before.
 pub fn remake(instance: &Instance, pushed: &[Pair], rows: &mut Rows)
     requires { AreRowsOf instance.now rows.old }
     ensures rows { AreRowsOf instance.now rows.new }

@@ -6,3 +6,4 @@ pub mod Numbers
 pub mod Prices
 pub mod Searches
 pub mod Sessions
+pub mod Version

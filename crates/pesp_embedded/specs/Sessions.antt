@@ -47,7 +47,7 @@ pub record IsOpened (f : Files) (after : Option Work) (told : Told) : Type 0 whe
   pub reason : told.reason ≡ reason_of (done_or ended)
   pub field : told.field ≡ field_of (done_or ended)
 
--- a line is answered: whatever the lines and replies so far, they go on with this line and its reply, which is put in front of the room
+-- a line is answered: whatever the lines and replies so far, they go on with this line and its reply, which is put in front of the room; its length alone is reported
 pub record IsAsked (before : Option Work) (line room room' : List ℕ) (told : Told) (after : Option Work) : Type 0 where
   pub from : Work
   pub to : Work
@@ -58,7 +58,7 @@ pub record IsAsked (before : Option Work) (line room room' : List ℕ) (told : T
   pub open_after : after ≡ Some to
   pub goes_on : (f : Files) (lines : List (List ℕ)) (replies : List ℕ) → IsSession f lines replies from → IsSession f (lines ++ line ∷ []) (replies ++ reply) to
   pub shown : room' ≡ fronted reply room
-  pub length : told.length ≡ length reply
+  pub tells : told ≡ told_done (length reply)
 
 -- the cost of the working timetable, or the refusal that names the least event without a time
 abbrev pub cost_in : Work → Result ℕ Refusal

@@ -1,4 +1,4 @@
-//! A run over memory.
+//! Runs over memory.
 
 ghost use Rattle.std.specs.Prelude.{◌≡◌, [], Bool, List, Option, Some, false, ℕ};
 ghost use Rattle.pesp_shell.specs.Opening.{files};
@@ -13,7 +13,8 @@ use pesp_counts::CountKeeper;
 use pesp_shell::{RunFault, run};
 use std::alloc::Global;
 
-/// How the run ended, and the replies.
+/// Runs, and returns how the run ended with the replies. They are kept in a vector first
+/// (docs/DECISIONS.md, "In process, page and package").
 fn run_over(alloc: Global, asked: &Asked) -> (Result<(), RunFault>, Vec<u8>)
     ensures { (left : Option (List ℕ)) × (at_end : Bool) × (not_written : Bool) × (passed_on : Bool)
         × IsRun (files asked.now.period asked.now.activities.now (Some asked.now.fixed.now) (Some asked.now.times.now))
@@ -40,7 +41,8 @@ fn run_over(alloc: Global, asked: &Asked) -> (Result<(), RunFault>, Vec<u8>)
     (ended, sink.text)
 }
 
-/// Puts the replies in front of the room, and tells how the run ended.
+/// Runs, writes the replies to the front of the room, as many of their bytes as fit, and reports
+/// how the run ended.
 pub(crate) fn answer(alloc: Global, asked: &Asked, out: &mut [u8]) -> Told
     ensures { IsAnswered asked.now.period asked.now.activities.now asked.now.fixed.now
         asked.now.times.now asked.now.commands.now out.old out.new result }

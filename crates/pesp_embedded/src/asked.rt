@@ -1,18 +1,18 @@
-//! What a call asks.
+//! Arguments of a run.
 
 use pesp_base::Period;
 
-/// The files of a run and its commands, as their bytes.
+/// The period of a run, and the bytes of its files and its commands.
 #[derive(Clone, Copy, Debug)]
 pub(crate) struct Asked<'a> {
-    // That of the run.
+    // The period of the run, which no file contains.
     pub(crate) period: Period,
-    // A file that is not given has no bytes.
+    // The file of activities; a missing one has no bytes.
     pub(crate) activities: &'a [u8],
-    // The same.
+    // The file of fixed times; a missing one has no bytes.
     pub(crate) fixed: &'a [u8],
-    // The same.
+    // The file of times; a missing one has no bytes.
     pub(crate) times: &'a [u8],
-    // All lines so far, since nothing is kept between calls.
+    // All lines from the first, since nothing is kept between calls.
     pub(crate) commands: &'a [u8],
 }

@@ -1,4 +1,4 @@
-//! A line, answered.
+//! The answer to a line.
 
 ghost use Rattle.std.specs.Prelude.{◌≡◌, ◌≤◌, false, length, IfOk, IfErr, OnErr, OnOk};
 ghost use Rattle.std.specs.List.{list_any};
@@ -14,9 +14,11 @@ use pesp_shell::reply_to_line;
 use pesp_shell_io::LONGEST_LINE;
 use std::alloc::Global;
 
-/// The reply to a line, without its line feed.
+/// The reply to a line, which is given without its line feed.
 ///
-/// Where memory is wanted, the instance and the working timetable are as they were.
+/// Faults in order: `LongLine`; `NotOneLine`; `Memory`, which a blank line or a comment never
+/// causes. Then the instance and the working timetable are unchanged; an optimum may have become
+/// known.
 pub(crate) fn ask<K: Keeper>(
     alloc: Global,
     bench: &mut Bench<K>,

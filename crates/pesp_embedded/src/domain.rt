@@ -1,4 +1,4 @@
-//! The domain of an event, as bits.
+//! Domains, as bits.
 
 ghost use Rattle.std.specs.Prelude.{◌≡◌, ◌<◌, ◌+◌, ◌/◌, ◌^◌, [], is_some, IfSome};
 ghost use Rattle.pesp_instance.specs.Network.{has_event};
@@ -15,7 +15,7 @@ use pesp_bench::Bench;
 use pesp_counts::CountKeeper;
 use pesp_domains::Row;
 
-/// Whether the row holds each of eight residues, the first one in the lowest bit.
+/// One bit for each of eight residues, the first one lowest: set if the row holds the residue.
 fn byte_from(row: &Row, first: u16) -> u8
     requires { first < 2 ^ 15 }
     ensures { result ≡ bits_from row.now first 8 }
@@ -29,7 +29,8 @@ fn byte_from(row: &Row, first: u16) -> u8
     byte
 }
 
-/// Puts the row in front of the room, residue r as bit r % 8 of byte r / 8, and says how many bytes that are.
+/// Writes the row to the front of the room, as many bytes as fit, and returns the number of all
+/// bytes. Residue r is bit r % 8 of byte r / 8.
 fn put_bits(room: &mut [u8], row: &Row, period: Period) -> usize
     ensures room { room.new ≡ fronted (bytes_in row.now result) room.old }
     ensures count { result ≡ (period + 7) / 8 }
@@ -41,7 +42,7 @@ fn put_bits(room: &mut [u8], row: &Row, period: Period) -> usize
     count
 }
 
-/// The domain of the event of a number.
+/// The domain of the event with this number, if there is one.
 fn row_of(bench: &Bench<CountKeeper>, number: u32) -> Option<&Row>
     ensures event { is_some result ≡ has_event bench.now.instance number }
     ensures row { IfSome result (λ row. IsDomain bench.now.instance [] number row.now) }
@@ -50,7 +51,8 @@ fn row_of(bench: &Bench<CountKeeper>, number: u32) -> Option<&Row>
     bench.domain(event).ok()
 }
 
-/// Puts the domain of the event of a number in front of the room.
+/// Writes the domain of the event with this number to the front of the room, as many bytes as fit,
+/// and reports their number.
 pub(crate) fn show_domain(bench: &Bench<CountKeeper>, number: u32, room: &mut [u8]) -> Told
     ensures { IsDomainShown (work_of bench.now) number room.old room.new result }
 {

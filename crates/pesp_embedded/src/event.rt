@@ -10,17 +10,18 @@ use crate::Told;
 use pesp_base::EventId;
 use pesp_instance::Instance;
 
-/// The event of a number that may be one of an instance; a greater one never is.
+/// The event with this number; none if the number exceeds the limit, so that no instance has it.
 pub(crate) fn event_of(instance: &Instance, number: u32) -> Option<EventId>
     ensures event { IfSome result (λ event. event ≡ number) }
     ensures none { IfNone result (has_event instance.now number ≡ false) }
 {
-    // Each call of an instance tells that it is one.
+    // Reading the instance makes its invariant known: numbers of events are within the limit.
     let _period = instance.period();
     EventId::new(number)
 }
 
-/// What is told of a number that is no event, which may be greater than any.
+/// The report of a number that is not an event. It may exceed the limit, so the report is not made
+/// from a `Refusal`.
 pub(crate) fn no_event(number: u32) -> Told
     ensures { result ≡ told_fault (fault.Refused (no.NoEvent number)) }
 {

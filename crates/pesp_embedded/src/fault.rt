@@ -1,18 +1,19 @@
-//! Why a call on a session does nothing.
+//! Faults of calls on sessions.
 
-ghost use Rattle.std.specs.Prelude.{◌≡◌};
+ghost use Rattle.std.specs.Prelude.{◌≡◌, ◌≢◌};
+ghost use Rattle.pesp_base.specs.declared.refusal.Refusal.TheVariants as no;
 ghost use Rattle.pesp_embedded.specs.Faults.{event_of, told_fault};
 ghost use Rattle.pesp_embedded.specs.declared.fault.Fault.TheVariants as fault;
 
 use crate::Told;
 use pesp_base::Refusal;
 
-/// Why a call on a session does nothing.
+/// Why a call on a session does nothing. Each has a status in `embedded/pespbench.h`.
 #[derive(Clone, Copy, Debug, PartialEq, Eq)]
 pub enum Fault {
-    /// No memory.
+    /// Memory ran out.
     Memory,
-    /// The line has too many bytes.
+    /// The line has more than 4,096 bytes.
     LongLine,
     /// The session is closed.
     Closed,
@@ -20,10 +21,11 @@ pub enum Fault {
     Open,
     /// There is a line feed in the line.
     NotOneLine,
-    /// The question is refused.
+    /// The query is refused.
     Refused(Refusal),
 }
 
+/// The event that a refusal of a query names; 0 if it names none.
 fn event_named(refusal: Refusal) -> u64
     ensures { result ≡ event_of refusal }
 {
@@ -33,6 +35,7 @@ fn event_named(refusal: Refusal) -> u64
     }
 }
 
+/// The report of a refusal.
 fn refused(refusal: &Refusal) -> Told
     ensures { result ≡ told_fault (fault.Refused refusal.now) }
 {
@@ -46,7 +49,18 @@ fn refused(refusal: &Refusal) -> Told
 }
 
 impl Fault {
-    /// What is told of it.
+    /// The fault for a refusal: out of memory has a status of its own.
+    pub(crate) fn of_refusal(refusal: Refusal) -> Fault
+        ensures memory { refusal ≡ no.Memory → result ≡ fault.Memory }
+        ensures refused { refusal ≢ no.Memory → result ≡ fault.Refused refusal }
+    {
+        match refusal {
+            Refusal::Memory => Fault::Memory,
+            _ => Fault::Refused(refusal),
+        }
+    }
+
+    /// The report of the fault.
     pub(crate) fn told(self) -> Told
         ensures { result ≡ told_fault self }
     {

@@ -1,4 +1,4 @@
-//! How good a timetable is, in numbers.
+//! Results of searches, as numbers.
 
 ghost use Rattle.std.specs.Prelude.{◌≡◌};
 ghost use Rattle.pesp_embedded.specs.Prices.{answer_in, found_known};
@@ -6,22 +6,24 @@ ghost use Rattle.pesp_embedded.specs.Searches.{found_answer, found_stop};
 
 use pesp_search::{Answer, Best, Known};
 
-/// What a search has come to, in numbers, which `embedded/pespbench.h` lists.
+/// The result of a search, in the numbers of `embedded/pespbench.h`.
 #[repr(C)]
 #[derive(Clone, Copy, Debug, PartialEq, Eq)]
 pub struct Found {
-    /// Of the timetable that is told; 0 where none is.
+    /// The cost of the timetable found: the sum of weight times slack; 0 if there is none.
     pub cost: u64,
-    /// What every timetable that meets everything costs at least; 0 where there is none.
+    /// A lower bound on the cost of every timetable that meets everything; for an optimum its cost;
+    /// 0 if no timetable meets everything.
     pub lower_bound: u64,
-    /// 0 and 1 at a stop without and with a timetable; 2 and 3 where the optimum is known, or that there is none.
+    /// At a stop 0 without a timetable and 1 with one; 2 if the optimum is known; 3 if it is known
+    /// that no timetable meets everything.
     pub state: u32,
-    /// 1 where the next call goes on where this one stopped; 0 where it begins anew, or the search has ended.
+    /// 1 if the next call resumes this one; 0 if it restarts, or the search has ended.
     pub goes_on: u32,
 }
 
 impl Found {
-    /// The optimum is known, or that there is none.
+    /// The result for a known answer.
     pub(crate) fn of_answer(answer: &Answer) -> Found
         ensures { result ≡ found_answer answer.now }
     {
@@ -37,7 +39,7 @@ impl Found {
         }
     }
 
-    /// A search came to its end with this.
+    /// The result of a search that ended with this timetable, or with none.
     fn of_end(best: &Option<Best>) -> Found
         ensures { result ≡ found_answer (answer_in best.now) }
     {
@@ -53,7 +55,8 @@ impl Found {
         }
     }
 
-    /// A search came to this, and goes on or not where it stopped.
+    /// The result of a search that ended or stopped. `goes_on` says whether a stopped one can be
+    /// resumed.
     pub(crate) fn of_known(known: &Known, goes_on: bool) -> Found
         ensures { result ≡ found_known known.now goes_on }
     {
@@ -64,7 +67,7 @@ impl Found {
         }
     }
 
-    /// A search stopped with this, and goes on or not.
+    /// The result of a search that stopped. `goes_on` says whether it can be resumed.
     pub(crate) fn of_stop(best: &Option<Best>, lower_bound: u64, goes_on: bool) -> Found
         ensures { result ≡ found_stop best.now lower_bound goes_on }
     {

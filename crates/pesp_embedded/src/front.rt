@@ -1,9 +1,9 @@
-//! The room for replies.
+//! The caller's room for replies.
 
 ghost use Rattle.std.specs.Prelude.{◌≡◌};
 ghost use Rattle.pesp_embedded.specs.Answered.{fronted};
 
-/// Puts the bytes in front of the room, as many as it holds.
+/// Writes the bytes to the front of the room, as many as fit. The rest of it is unchanged.
 pub(crate) fn put_front(room: &mut [u8], bytes: &[u8])
     ensures { room.new ≡ fronted bytes.now room.old }
 {

@@ -11,13 +11,14 @@ use parts::Parts;
 use std::alloc::Global;
 use std::marker::Model;
 
-/// What a session keeps, or nothing. Letting go of one gives no memory back: what it keeps is taken out first.
+/// A pointer to what a session keeps, or to nothing. Dropping it frees nothing: `into_box` takes
+/// out what it keeps first.
 #[repr(C)]
 #[derive(Drop)]
 pub struct Handle {
-    // Of the block of what is kept; where nothing is, of no use.
+    // Points to the block of what is kept; unused if nothing is.
     at: *mut u8,
-    // Which gave the block.
+    // The allocator of that block.
     alloc: Global,
     pub ghost kept: { Option Kept } by { kept_coded },
 }
@@ -27,7 +28,7 @@ impl Model for Handle {
 }
 
 impl Handle {
-    /// The handle of what these are the parts of.
+    /// The handle of a box, from its parts.
     fn of_parts(parts: Parts<Kept, Global>) -> Handle
         ensures { result.kept ≡ Some parts.value }
     {
@@ -38,7 +39,7 @@ impl Handle {
         }
     }
 
-    /// The parts of what a handle keeps that keeps something.
+    /// The parts of the box that the handle keeps. It keeps one.
     fn into_parts(self) -> Parts<Kept, Global>
         requires { IsSome self.kept }
         ensures { self.kept ≡ Some result.value }
@@ -50,14 +51,14 @@ impl Handle {
         }
     }
 
-    /// The handle of what is kept.
+    /// The handle of a box.
     pub(crate) fn of(kept: Box<Kept>) -> Handle
         ensures { result.kept ≡ Some kept.value }
     {
         Handle::of_parts(Parts::of(kept))
     }
 
-    /// What a handle keeps that keeps something.
+    /// The box that the handle keeps. It keeps one.
     pub(crate) fn into_box(self) -> Box<Kept>
         requires { IsSome self.kept }
         ensures { self.kept ≡ Some result.value }
@@ -65,7 +66,7 @@ impl Handle {
         self.into_parts().into_box()
     }
 
-    /// The handle of nothing.
+    /// A handle of nothing.
     pub(crate) fn none(alloc: Global) -> Handle
         ensures { result.kept ≡ None }
     {

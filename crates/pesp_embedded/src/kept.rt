@@ -3,8 +3,9 @@
 use pesp_bench::Bench;
 use pesp_counts::CountKeeper;
 
-/// The workbench of a session, over the keeper that the program runs on.
+/// What an open session keeps.
 #[derive(Drop)]
 pub struct Kept {
+    /// The workbench, over the program's keeper.
     pub bench: Bench<CountKeeper>,
 }

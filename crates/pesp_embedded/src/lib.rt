@@ -1,8 +1,11 @@
-//! The workbench for callers that are not Rattle: in C, in Rust, in Python, in a web page.
+//! The workbench for callers in other languages: in C, in Rust, in Python, in a web page.
 //!
-//! A session is opened of files, and answers one line after another; a run is answered as a whole, and nothing of it is kept.
+//! A session is opened from files, and answers one line after another. A run is answered as a
+//! whole, and nothing of it is kept. `embedded/pespbench.h` documents the calls for C, lists the
+//! statuses, and has the caller's duties.
 #![tactic(auto)]
 
+mod activity;
 mod answering;
 mod asked;
 mod asking;
@@ -22,6 +25,7 @@ mod pricing;
 mod searching;
 mod session;
 mod told;
+mod version;
 
 ghost use Rattle.std.specs.Prelude.{◌≡◌, ◌≢◌, ◌≤◌, IsSome, IsSomeAnd, Some, None, Ok, Err};
 ghost use Rattle.pesp_base.specs.Limits.{least_period, greatest_period};
@@ -29,7 +33,7 @@ ghost use Rattle.pesp_base.specs.declared.refusal.Refusal.{Refusal};
 ghost use Rattle.pesp_shell.specs.Opening.{files};
 ghost use Rattle.pesp_embedded.specs.Answered.{IsAnswered};
 ghost use Rattle.pesp_embedded.specs.Faults.{IsLineFault, told_fault};
-ghost use Rattle.pesp_embedded.specs.Numbers.{no_period};
+ghost use Rattle.pesp_embedded.specs.Numbers.{no_period, told_done};
 ghost use Rattle.pesp_embedded.specs.Sessions.{IsAsked, IsOpened, cost_in, work_in};
 ghost use Rattle.pesp_embedded.specs.declared.fault.Fault.{Fault};
 ghost use Rattle.pesp_embedded.specs.declared.fault.Fault.TheVariants as fault;
@@ -43,16 +47,24 @@ pub use kept::Kept;
 pub use lists::NO_TIME;
 pub use numbers::{pesp_domain, pesp_events, pesp_times, pesp_try_move};
 use pesp_base::Period;
-pub use pricing::pesp_price;
+pub use pricing::{pesp_price, pesp_price_tension};
 pub use searching::pesp_search;
 pub use session::Session;
 use std::alloc::Global;
 pub use told::Told;
+pub use version::pesp_version;
 
 /// Answers the lines of `commands`, as a run of the workbench over the three files does.
 ///
-/// The replies stand in front of `out`, as many of their bytes as it has room for, and what comes after them stays as
-/// it was. `told` has how many bytes all replies have, and how the run ended. A file that is not given has no bytes.
+/// `period` is 2 to 1,440, in the unit of the files. A file without bytes is missing. `out`
+/// receives as many bytes of the replies as fit, from its start; the rest of it is unchanged.
+/// `told` is filled in completely: `length` is that of all replies.
+///
+/// Statuses in order: 9 for another period, and then `out` is unchanged; 1, 2 and 3 for the first
+/// fault of the activities, the fixed times and the times, and 6 with `place` 0 if memory runs out
+/// after the files are read, with no replies; then, at the first line that has one, 8 for too many
+/// lines, 7 for a line that is too long, 6 if memory runs out, and 5 if it runs out for the
+/// replies. Otherwise 0. `embedded/pespbench.h` has their `place`, `reason` and `field`.
 #[unsafe(no_mangle)]
 pub extern "C" fn pesp_answer(
     alloc: Global,
@@ -86,9 +98,12 @@ pub extern "C" fn pesp_answer(
     };
 }
 
-/// Opens a session of the files, which is closed before.
+/// Opens a closed session from the files. A file without bytes is missing.
 ///
-/// Where it opens none, it stays closed, and `told` says why, as for a run. A file that is not given has no bytes.
+/// Statuses in order: 11 if the session is open; 9 if the period is not 2 to 1,440; 1, 2 and 3 for
+/// the first fault of the activities, the fixed times and the times, with its record, its reason
+/// and its field; 6 with `place` 0 if memory runs out after the files are read. Otherwise 0.
+/// `length` is 0. A refused call leaves the session as it is.
 #[unsafe(no_mangle)]
 pub extern "C" fn pesp_open(
     alloc: Global,
@@ -128,7 +143,10 @@ pub extern "C" fn pesp_open(
     };
 }
 
-/// Gives all memory of a session back. A closed session stays one.
+/// Closes a session and frees all its memory. A closed session stays closed.
+///
+/// The clause says that the session is closed. That its memory is freed is tested, not proved
+/// (docs/PROMISES.md, "Not proved").
 #[unsafe(no_mangle)]
 pub extern "C" fn pesp_close(alloc: Global, session: &mut Session)
     ensures { work_in session.new.handle.kept ≡ None }
@@ -136,11 +154,15 @@ pub extern "C" fn pesp_close(alloc: Global, session: &mut Session)
     drop(session.take(alloc));
 }
 
-/// Answers a line, given without its line feed.
+/// Answers one line, given without its line feed. A session answers any number of lines.
 ///
-/// The reply stands in front of `out`, as many of its bytes as it has room for, and what comes after it stays as it
-/// was. `told` has how many bytes it has. Where `told` says that the line is not answered, the instance, the working
-/// timetable and `out` stay as they were.
+/// `out` receives as many bytes of the reply as fit, from its start; the rest of it is unchanged.
+/// `told.length` is the length of the reply.
+///
+/// Statuses in order: 10 if the session is closed; 7 if the line has more than 4,096 bytes; 12 if
+/// there is a line feed in it; 6 if memory runs out, which a blank line or a comment never causes.
+/// Otherwise 0. With a status above 0 the instance, the working timetable and `out` are unchanged;
+/// an optimum may have become known. `place` is 0.
 #[unsafe(no_mangle)]
 pub extern "C" fn pesp_ask(
     alloc: Global,
@@ -172,13 +194,19 @@ pub extern "C" fn pesp_ask(
     session.put(kept);
 }
 
-/// The cost of the working timetable: the sum of weight times slack.
+/// The cost of the working timetable: the sum of weight times slack over all activities, met or not
+/// (docs/RULES.md, "Cost").
 ///
-/// It is refused, 11, where an event has no time; the least one is named. The session stays as it was.
+/// The session never changes. If every event has a time, the call takes the same time at every
+/// size: the cost is kept (docs/HISTORY.md, "A kept cost").
+///
+/// Statuses in order: 10 if the session is closed; 13 with reason 11 if an event has no time, with
+/// `place` the least such event. Otherwise 0. With a status above 0 `cost` is unchanged.
 #[unsafe(no_mangle)]
 pub extern "C" fn pesp_cost(alloc: Global, session: &mut Session, cost: &mut u64, told: &mut Told)
     ensures value { told.new.status ≡ 0
         → IsSomeAnd (work_in session.old.handle.kept) (λ w. cost_in w ≡ Ok cost.new) }
+    ensures done { told.new.status ≡ 0 → told.new ≡ told_done 0 }
     ensures closed { work_in session.old.handle.kept ≡ None → told.new ≡ told_fault fault.Closed }
     ensures refused { IsSome (work_in session.old.handle.kept) → told.new.status ≢ 0
         → (refusal : Refusal) × IsSomeAnd (work_in session.old.handle.kept) (λ w. cost_in w ≡ Err refusal)

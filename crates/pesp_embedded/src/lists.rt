@@ -13,10 +13,11 @@ use pesp_counts::CountKeeper;
 use pesp_instance::Instance;
 use pesp_tension::Timetable;
 
-/// In the place of the time of an event without one.
+/// Instead of the time of an event without one: a time is below the period, which is at most 1,440.
+/// It is part of the interface (`PESP_NO_TIME` in `embedded/pespbench.h`).
 pub const NO_TIME: u16 = 65_535;
 
-/// Puts the events in front of the room, ascending, as many as it holds.
+/// Writes the events to the front of the room, in ascending order, as many as fit.
 fn put_events(room: &mut [u32], instance: &Instance)
     ensures { room.new ≡ fronted (event_ids instance.now) room.old }
 {
@@ -30,7 +31,8 @@ fn put_events(room: &mut [u32], instance: &Instance)
     }
 }
 
-/// Puts the time of each event in front of the room, by ascending events, as many as it holds.
+/// Writes the time of each event to the front of the room, in ascending order of events, as many as
+/// fit.
 fn put_times(room: &mut [u16], instance: &Instance, times: &Timetable)
     ensures { room.new ≡ fronted (map (time_or_none times.now) (event_ids instance.now)) room.old }
 {
@@ -44,7 +46,7 @@ fn put_times(room: &mut [u16], instance: &Instance, times: &Timetable)
     }
 }
 
-/// Puts the events of a workbench in front of the room, and tells how many there are.
+/// Writes the events of a workbench to the front of the room, and reports their number.
 pub(crate) fn show_events(bench: &Bench<CountKeeper>, room: &mut [u32]) -> Told
     ensures { AreShown (events_in (work_of bench.now)) room.old room.new result }
 {
@@ -53,7 +55,7 @@ pub(crate) fn show_events(bench: &Bench<CountKeeper>, room: &mut [u32]) -> Told
     Told::ended(instance.event_count() as u64, 0, 0)
 }
 
-/// Puts the times of a timetable in front of the room, and tells how many events there are.
+/// Writes the times of a timetable to the front of the room, and reports the number of events.
 pub(crate) fn show_timetable(room: &mut [u16], instance: &Instance, times: &Timetable) -> Told
     ensures { AreShown (map (time_or_none times.now) (event_ids instance.now)) room.old room.new result }
 {
@@ -61,7 +63,7 @@ pub(crate) fn show_timetable(room: &mut [u16], instance: &Instance, times: &Time
     Told::ended(instance.event_count() as u64, 0, 0)
 }
 
-/// Puts the working timetable in front of the room, and tells how many events there are.
+/// Writes the working timetable to the front of the room, and reports the number of events.
 pub(crate) fn show_times(bench: &Bench<CountKeeper>, room: &mut [u16]) -> Told
     ensures { AreShown (times_in (work_of bench.now)) room.old room.new result }
 {

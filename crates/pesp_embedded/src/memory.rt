@@ -1,16 +1,16 @@
-//! Devices over memory.
+//! Devices over memory: the source and the sink of a run.
 
 ghost use Rattle.std.specs.Prelude.{◌≡◌, [], Some, false};
 
 use pesp_shell::{ByteSink, ByteSource, Failed};
 use std::alloc::Global;
 
-/// A text that is read.
+/// A text to read. It never fails.
 #[derive(Drop)]
 pub(crate) struct Given<'a> {
-    /// What is left of the text.
+    /// The rest of the text.
     pub(crate) rest: &'a [u8],
-    /// Whether the last call with some room found nothing left.
+    /// Whether the last call with any room found the end.
     pub(crate) at_end: bool,
 }
 
@@ -33,14 +33,14 @@ impl ByteSource for Given<'_> {
     }
 }
 
-/// The text that was written, as far as there was memory.
+/// The written text, as far as memory sufficed.
 #[derive(Drop)]
 pub(crate) struct Taken {
-    /// All bytes that were taken.
+    /// All accepted bytes.
     pub(crate) text: Vec<u8>,
-    /// Whether memory was wanted for some.
+    /// Whether memory ran out for some bytes.
     pub(crate) failed: bool,
-    /// Whether nothing was taken since the last `finish`.
+    /// Whether `finish` was called after the last accepted byte.
     pub(crate) passed_on: bool,
 }
 

@@ -1,4 +1,4 @@
-//! A move that is tried.
+//! The effect of a move on the cost.
 
 ghost use Rattle.pesp_shell_replies.specs.Legal.{work_of};
 ghost use Rattle.pesp_embedded.specs.Sessions.{IsNumber, change_in};
@@ -8,7 +8,8 @@ use crate::{Fault, Told};
 use pesp_bench::Bench;
 use pesp_counts::CountKeeper;
 
-/// Puts in what the cost would change by if the event had this time.
+/// Sets `change` to the amount by which the cost would change if the event of this number had this
+/// time, or reports the refusal and leaves it unchanged.
 pub(crate) fn tell_change(
     bench: &Bench<CountKeeper>,
     number: u32,

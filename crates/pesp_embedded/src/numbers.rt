@@ -1,4 +1,4 @@
-//! What a session answers in numbers.
+//! Queries that a session answers in numbers.
 
 ghost use Rattle.std.specs.Prelude.{◌≡◌, None, IfSome};
 ghost use Rattle.pesp_embedded.specs.Faults.{told_fault};
@@ -11,9 +11,14 @@ use crate::moves::tell_change;
 use crate::{Fault, Session, Told};
 use std::alloc::Global;
 
-/// What the cost would change by if the event had this time. Nothing is set.
+/// By how much the cost would change if the event had this time. The session does not change.
 ///
-/// Refusals in order: 2; 4 where the time is not below the period; 11 with the least event that has no time.
+/// Only the activities at the event are visited.
+///
+/// Statuses in order: 10 if the session is closed; 13 with reason 2 if there is no such event,
+/// which is `place`; 13 with reason 4 if the time is not below the period; 13 with reason 11 if an
+/// event has no time, with `place` the least such event. Otherwise 0. With a status above 0
+/// `change` is unchanged.
 #[unsafe(no_mangle)]
 pub extern "C" fn pesp_try_move(
     alloc: Global,
@@ -37,10 +42,10 @@ pub extern "C" fn pesp_try_move(
     session.put(kept);
 }
 
-/// The events, ascending.
+/// The events, in ascending order. The session does not change.
 ///
-/// They stand in front of `out`, as many as it has room for, and what comes after them stays as it was. `told` has how
-/// many there are.
+/// `out` receives as many as fit, from its start; the rest of it is unchanged. `told.length` is the
+/// number of events. Status 10 if the session is closed, and then `out` is unchanged; otherwise 0.
 #[unsafe(no_mangle)]
 pub extern "C" fn pesp_events(
     alloc: Global,
@@ -62,10 +67,11 @@ pub extern "C" fn pesp_events(
     session.put(kept);
 }
 
-/// The time of each event in the working timetable, by ascending events; [`NO_TIME`](crate::NO_TIME) where it has none.
+/// The time of each event in the working timetable, in ascending order of events;
+/// [`NO_TIME`](crate::NO_TIME) if it has none. The session does not change.
 ///
-/// They stand in front of `out`, as many as it has room for, and what comes after them stays as it was. `told` has how
-/// many events there are.
+/// `out` receives as many as fit, from its start; the rest of it is unchanged. `told.length` is the
+/// number of events. Status 10 if the session is closed, and then `out` is unchanged; otherwise 0.
 #[unsafe(no_mangle)]
 pub extern "C" fn pesp_times(alloc: Global, session: &mut Session, out: &mut [u16], told: &mut Told)
     ensures answered { IfSome (work_in session.old.handle.kept) (λ w.
@@ -82,10 +88,14 @@ pub extern "C" fn pesp_times(alloc: Global, session: &mut Session, out: &mut [u1
     session.put(kept);
 }
 
-/// The domain of an event: residue r as bit r % 8, from the lowest, of byte r / 8.
+/// The domain of an event: residue r is in it exactly if bit r % 8, counted from the lowest, of
+/// byte r / 8 is set. The session does not change.
 ///
-/// The bytes stand in front of `out`, as many as it has room for, and what comes after them stays as it was. `told` has
-/// how many there are. A number that is no event is refused, 2.
+/// There are (period + 7) / 8 bytes, which is `told.length`. `out` receives as many as fit, from
+/// its start; the rest of it is unchanged.
+///
+/// Statuses in order: 10 if the session is closed; 13 with reason 2 if there is no such event,
+/// which is `place`. Otherwise 0. With a status above 0 `out` is unchanged.
 #[unsafe(no_mangle)]
 pub extern "C" fn pesp_domain(
     alloc: Global,

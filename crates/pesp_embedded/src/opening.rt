@@ -1,4 +1,4 @@
-//! A session, opened.
+//! The opening of a session.
 
 ghost use Rattle.std.specs.Prelude.{◌≡◌, [], IfOk, IfErr, Some};
 ghost use Rattle.pesp_shell_replies.specs.Legal.{work_of};
@@ -9,9 +9,10 @@ use pesp_base::Period;
 use pesp_shell::{RunFault, open};
 use std::alloc::Global;
 
-/// What a session of files keeps.
+/// What a session of the files keeps. A file without bytes is missing.
 ///
-/// Faults in order: the files; out of memory at line 0.
+/// Faults in order: the file of activities, that of fixed times, that of times, out of memory at
+/// line 0.
 pub(crate) fn opened(
     alloc: Global,
     period: Period,

@@ -1,4 +1,4 @@
-//! A search for the optimum, told in numbers.
+//! Searches for the optimum, in numbers.
 
 ghost use Rattle.std.specs.Prelude.{◌≡◌, ◌≢◌, ◌≤◌, None, Some, IfErr, IfOk, IfSome, IsSome, IsSomeAnd, OnErr, option_map};
 ghost use Rattle.pesp_shell_replies.specs.Legal.{work_of};
@@ -16,7 +16,8 @@ use pesp_instance::Instance;
 use pesp_search::{Answer, Best};
 use std::alloc::Global;
 
-/// Puts the times of the optimum in front of the room, if there is one.
+/// Writes the times of the optimum, if there is one, to the front of the room, and reports their
+/// number.
 fn show_answer(room: &mut [u16], instance: &Instance, answer: &Answer) -> Told
     ensures { AreShown (times_told instance.now (timetable_in answer.now)) room.old room.new result }
 {
@@ -26,7 +27,8 @@ fn show_answer(room: &mut [u16], instance: &Instance, answer: &Answer) -> Told
     }
 }
 
-/// Puts the times that a search stopped with in front of the room, if there are any.
+/// Writes the times of a stopped search, if there are any, to the front of the room, and reports
+/// their number.
 fn show_stop(room: &mut [u16], instance: &Instance, best: &Option<Best>) -> Told
     ensures { AreShown (times_told instance.now (option_map (λ b. b.times) best.now)) room.old
         room.new result }
@@ -37,7 +39,8 @@ fn show_stop(room: &mut [u16], instance: &Instance, best: &Option<Best>) -> Told
     }
 }
 
-/// Looks for the optimum, puts the times that it comes to in front of the room, and tells how good they are.
+/// Searches for the optimum in at most this number of nodes, writes the times found to the front of
+/// the room, and returns the result and the report. The only fault is `Memory`.
 fn search(
     alloc: Global,
     bench: &mut Bench<CountKeeper>,
@@ -71,12 +74,33 @@ fn search(
     }
 }
 
-/// Looks for the optimum by at most so many nodes, as the line `try` with that number does.
+/// Searches for the optimum in at most `nodes` nodes, unless it is known, and returns the best
+/// timetable found, its cost, and a lower bound.
 ///
-/// The time of each event in the timetable that it comes to stands in front of `out`, by ascending events, as many as it
-/// has room for, and what comes after them stays as it was. `found` has how good that timetable is, and `told` how many
-/// events there are; 0 where no timetable is told. What is found serves later searches and lines of the session.
-/// Without memory nothing is told, and no optimum was or is known.
+/// A node is one of `try` (docs/FORMATS.md, "Commands and replies"). Unlike `try`, the call resumes
+/// the previous one if that stopped, was a search by cycles, and the network is the same:
+/// `found.goes_on` reports it for the next call.
+///
+/// `found` is filled in completely if the status is 0. State 2 returns the optimum, and state 3
+/// means that no timetable meets everything; both remain known until an edit that may change them.
+/// States 1 and 0 are a stop after exactly `nodes` nodes, with a timetable that meets everything
+/// and without one. That timetable costs at most as much as any that the uncut tree reaches in
+/// `nodes` nodes. No timetable that meets everything costs less than `lower_bound`.
+///
+/// `out` receives the time of each event in the timetable, in ascending order of events, as many as
+/// fit, from its start; the rest of it is unchanged. `told.length` is the number of events, and 0
+/// if there is no timetable.
+///
+/// With 0 nodes the call searches only what needs no node, and `goes_on` is that of the last search
+/// with more nodes, of any network. The instance and the working timetable do not change.
+///
+/// Statuses in order: 10 if the session is closed; 6 if memory runs out, before the first node:
+/// then the optimum is not known. Otherwise 0. With a status above 0 `out` and `found` are
+/// unchanged.
+///
+/// The clauses bound the nodes of the tree; the search by cycles before it has a budget of units
+/// for each node. No clause says that a later call resumes, or returns nothing worse
+/// (docs/PROMISES.md, "Not proved").
 #[unsafe(no_mangle)]
 pub extern "C" fn pesp_search(
     alloc: Global,

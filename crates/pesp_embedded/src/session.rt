@@ -1,4 +1,4 @@
-//! What a caller holds.
+//! Sessions, as callers hold them.
 
 ghost use Rattle.std.specs.Prelude.{◌≡◌, Some, None, is_some, option_map};
 
@@ -6,13 +6,16 @@ use crate::handle::Handle;
 use crate::kept::Kept;
 use std::alloc::Global;
 
-/// What a caller holds of a session. One of zeros is closed.
+/// A session, as its caller holds it. One of zeros is closed.
+///
+/// It is a pointer with a mark, in memory of the caller (docs/DECISIONS.md, "In process, page and
+/// package").
 #[repr(C)]
 #[derive(Drop)]
 pub struct Session {
-    /// Of what an open session keeps.
+    /// The handle of what an open session keeps.
     pub handle: Handle,
-    // Whether it keeps something.
+    // Whether the session is open: the handle keeps something.
     is_open: bool,
     ghost tells: { is_open ≡ is_some handle.kept },
 }
@@ -38,7 +41,7 @@ impl Session {
         }
     }
 
-    /// What an open session keeps.
+    /// What the session keeps; none if it is closed.
     fn into_box(self) -> Option<Box<Kept>>
         ensures { option_map (λ kept. kept.value) result ≡ self.handle.kept }
     {
@@ -49,7 +52,8 @@ impl Session {
         }
     }
 
-    /// Takes out what the session keeps, which is closed until that is put back.
+    /// Takes out what the session keeps, and closes it. Each call takes it out, and restores it by
+    /// `put`: a handle lends nothing.
     pub(crate) fn take(&mut self, alloc: Global) -> Option<Box<Kept>>
         ensures kept { option_map (λ kept. kept.value) result ≡ self.old.handle.kept }
         ensures closed { self.new.handle.kept ≡ None }
@@ -57,7 +61,8 @@ impl Session {
         std::mem::replace(self, Session::closed(alloc)).into_box()
     }
 
-    /// Puts back what a session is to keep.
+    /// Opens the session with what it is to keep. The session is closed before: replacing its
+    /// handle frees nothing.
     pub(crate) fn put(&mut self, kept: Box<Kept>)
         ensures { self.new.handle.kept ≡ Some kept.value }
     {

@@ -1,35 +1,38 @@
-//! What a call tells.
+//! Reports of calls.
 
 ghost use Rattle.std.specs.Prelude.{◌≡◌};
 ghost use Rattle.pesp_embedded.specs.Numbers.{field_of, field_of_kind, no_period, place_of, reason_of, reason_of_kind, status_of, status_of_file};
 
 use pesp_shell::{FaultKind, RunFault, Source};
 
-/// How a call ended, in numbers, which `embedded/pespbench.h` lists.
+/// The report of a call, in the numbers of `embedded/pespbench.h`.
 #[repr(C)]
 #[derive(Clone, Copy, Debug, PartialEq, Eq)]
 pub struct Told {
-    /// How many bytes the replies have, also where the room is shorter.
+    /// The number of bytes of the replies, or of the events, times or bytes asked for, even if the
+    /// room holds fewer.
     pub length: u64,
-    /// The record of a file's fault, or the line at which the run ended; else 0.
+    /// The record of a file's fault, the line at which the run ended, or the event that a refusal
+    /// names; else 0.
     pub place: u64,
-    /// How the run ended; 0 where all lines are answered.
+    /// How the call ended; 0 if it was done.
     pub status: u32,
-    /// Why a record of a file is refused; else 0.
+    /// Why a record of a file is faulty, or the number of a refusal; else 0.
     pub reason: u32,
     /// The field of the record that is not a number or out of range, from 1; else 0.
     pub field: u32,
 }
 
 impl Told {
-    /// There is no such period.
+    /// The report of an invalid period.
     pub(crate) fn no_period() -> Told
         ensures { result ≡ no_period }
     {
         Told::ended(0, 9, 0)
     }
 
-    /// A run with replies of this length ended so, by no fault of a file.
+    /// The report of a call with this length, status and place. The status is neither a fault of a
+    /// file nor a refusal.
     pub(crate) fn ended(length: u64, status: u32, place: u64) -> Told
         ensures { result ≡ record {
           length = length;
@@ -48,7 +51,7 @@ impl Told {
         }
     }
 
-    /// How a run with replies of this length ended.
+    /// The report of a run with replies of this length.
     pub(crate) fn of(length: u64, ended: Result<(), RunFault>) -> Told
         ensures length { result.length ≡ length }
         ensures place { result.place ≡ place_of ended }
@@ -74,6 +77,7 @@ impl Told {
     }
 }
 
+/// The status for a fault of this file.
 fn file_number(source: Source) -> u32
     ensures { result ≡ status_of_file source }
 {
@@ -84,6 +88,7 @@ fn file_number(source: Source) -> u32
     }
 }
 
+/// The reason for a fault of this kind.
 fn reason_number(kind: FaultKind) -> u32
     ensures { result ≡ reason_of_kind kind }
 {
@@ -102,6 +107,7 @@ fn reason_number(kind: FaultKind) -> u32
     }
 }
 
+/// The field that a fault names, from 1; 0 if it names none.
 fn field_number(kind: FaultKind) -> u32
     ensures { result ≡ field_of_kind kind }
 {

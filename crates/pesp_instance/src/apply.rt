@@ -13,9 +13,9 @@ use pesp_base::{
 };
 
 impl Instance {
-    /// Makes an edit, or answers the first refusal and changes nothing.
+    /// Makes an edit, or returns the first refusal and changes nothing.
     ///
-    /// Only `AddEvent`, `AddActivity` and `SetEnds` take memory, and only they can be refused it, after all else.
+    /// Only `AddEvent`, `AddActivity` and `SetEnds` allocate. Out of memory is the last refusal.
     pub fn apply(&mut self, edit: &Edit) -> Result<(), Refusal>
         ensures ok { OnOk result (edited self.old edit.now ≡ Ok self.new) }
         ensures err { IfErr result (IsRefusal self.old edit.now) }
@@ -35,7 +35,8 @@ impl Instance {
         }
     }
 
-    /// `EventExists` where the number is an event, since that comes first, and else the other refusal.
+    /// `EventExists` if there is such an event, because that refusal comes first; otherwise the
+    /// other one.
     fn event_exists_or(&self, event: EventId, other: Refusal) -> Refusal
         ensures { result ≡ (if has_event self.now event then no.EventExists event else other) }
     {
@@ -51,7 +52,7 @@ impl Instance {
         ensures err { IfErr result (IsRefusal self.old (Edit.AddEvent event)) }
         ensures unchanged { OnErr result (self.new ≡ self.old) }
     {
-        // Known of the value by its type; the instance keeps it as a fact.
+        // The type's invariant, as a fact for that of the instance.
         prove!(event.get() <= GREATEST_NUMBER);
         if self.event_count() >= max_events(self.period) {
             return Err(self.event_exists_or(event, Refusal::TooManyEvents));
@@ -128,14 +129,15 @@ impl Instance {
         let Some(slot) = self.vertices.event_slot(event) else {
             return Err(Refusal::NoEvent(event));
         };
-        if self.vertices.at(slot).event.window.is_none() {
+        if self.vertices.value_at(slot).event.window.is_none() {
             return Err(Refusal::NotFixed(event));
         }
         self.vertices.rewindow(slot, None);
         Ok(())
     }
 
-    /// `ActivityExists` where the number is an activity, since that comes first, and else the other refusal.
+    /// `ActivityExists` if there is such an activity, because that refusal comes first; otherwise
+    /// the other one.
     fn activity_exists_or(&self, id: ActivityId, other: Refusal) -> Refusal
         ensures { result ≡ (if is_some (activity_of self.now id) then no.ActivityExists id else
             other) }
@@ -152,7 +154,7 @@ impl Instance {
         ensures err { IfErr result (IsRefusal self.old (Edit.AddActivity activity)) }
         ensures unchanged { OnErr result (self.new ≡ self.old) }
     {
-        // Known of the value by its type; the instance keeps it as a fact.
+        // The types' invariants, as facts for that of the instance.
         prove!(activity.id.get() <= GREATEST_NUMBER);
         prove!(activity.span.lower() <= activity.span.upper());
         prove!(activity.weight.get() <= GREATEST_WEIGHT);
@@ -170,7 +172,7 @@ impl Instance {
             Ok(false) => return Err(Refusal::ActivityExists(activity.id)),
             Err(_) => return Err(self.activity_exists_or(activity.id, Refusal::Memory)),
         }
-        // An event's set gives no room in advance: without it the activity is stored no longer.
+        // An event's set cannot reserve room, so the activity is removed if an end cannot list it.
         if self.vertices.link(&activity, from, to).is_err() {
             self.activities.remove(activity.id.get());
             return Err(Refusal::Memory);
@@ -195,12 +197,12 @@ impl Instance {
         ensures err { IfErr result (IsRefusal self.old (Edit.SetSpan id span)) }
         ensures unchanged { OnErr result (self.new ≡ self.old) }
     {
-        // Known of the value by its type; the instance keeps it as a fact.
+        // The type's invariant, as a fact for that of the instance.
         prove!(span.lower() <= span.upper());
         let Some(slot) = self.activities.slot(id.get()) else {
             return Err(Refusal::NoActivity(id));
         };
-        let activity = *self.activities.at(slot);
+        let activity = *self.activities.value_at(slot);
         self.activities.set(slot, Activity { span, ..activity });
         Ok(())
     }
@@ -210,12 +212,12 @@ impl Instance {
         ensures err { IfErr result (IsRefusal self.old (Edit.SetWeight id weight)) }
         ensures unchanged { OnErr result (self.new ≡ self.old) }
     {
-        // Known of the value by its type; the instance keeps it as a fact.
+        // The type's invariant, as a fact for that of the instance.
         prove!(weight.get() <= GREATEST_WEIGHT);
         let Some(slot) = self.activities.slot(id.get()) else {
             return Err(Refusal::NoActivity(id));
         };
-        let activity = *self.activities.at(slot);
+        let activity = *self.activities.value_at(slot);
         self.activities.set(slot, Activity { weight, ..activity });
         Ok(())
     }
@@ -234,7 +236,7 @@ impl Instance {
         let Some(to_slot) = self.vertices.event_slot(to) else {
             return Err(Refusal::NoEvent(to));
         };
-        let old = *self.activities.at(slot);
+        let old = *self.activities.value_at(slot);
         let new = Activity { from, to, ..old };
         if self.vertices.link(&new, from_slot, to_slot).is_err() {
             return Err(Refusal::Memory);

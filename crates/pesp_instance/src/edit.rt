@@ -5,24 +5,25 @@ use pesp_base::{Activity, ActivityId, EventId, Span, Weight};
 /// A change of an instance.
 #[derive(Clone, Copy, Debug, PartialEq, Eq)]
 pub enum Edit {
-    /// One more event, which has no window.
+    /// Adds an event, without a window.
     AddEvent(EventId),
-    /// An event goes, and its window with it.
+    /// Drops an event, and its window.
     DropEvent(EventId),
-    /// An event's time is fixed, in place of an earlier window: its window has this residue alone.
+    /// Fixes an event's time: its window, which replaces any earlier one, holds this residue alone.
     Fix(EventId, u16),
-    /// An event has the window of this first residue and this length, in place of an earlier one.
+    /// Gives an event the window of this first residue and this length, which replaces any earlier
+    /// one.
     SetWindow(EventId, u16, u16),
-    /// An event's window goes.
+    /// Removes an event's window.
     Unfix(EventId),
-    /// One more activity.
+    /// Adds an activity.
     AddActivity(Activity),
-    /// An activity goes.
+    /// Drops an activity.
     DropActivity(ActivityId),
-    /// An activity has another span.
+    /// Gives an activity another span.
     SetSpan(ActivityId, Span),
-    /// An activity has another weight.
+    /// Gives an activity another weight.
     SetWeight(ActivityId, Weight),
-    /// An activity leads from another event, or to another one.
+    /// Gives an activity other ends.
     SetEnds(ActivityId, EventId, EventId),
 }

@@ -1,4 +1,4 @@
-//! Which activities are at which event.
+//! The activities at each event.
 
 ghost use Rattle.std.specs.Prelude.{◌≡◌, ℕ, true, false, Some, [], map, All, IfOk, OnOk, OnErr, is_some, not, ◌==◌, ◌&&◌, ◌||◌};
 ghost use Rattle.std.specs.List.Sorted.{IsStrictlyIncreasing, IsStrictlySortedBy};
@@ -31,7 +31,7 @@ impl Table<Vertex> {
         self.slot(event.get())
     }
 
-    /// The numbers of the activities at an event, in order, and nothing where the event is not there.
+    /// The numbers of the activities at an event, ascending; none if the event does not exist.
     pub fn numbers_at(&self, event: EventId) -> Option<btree_set::Iter<'_, u32>>
         ensures known { is_some result
             ≡ is_some (with_number (λ x. x.id) event (events_of self.now.values)) }
@@ -42,9 +42,9 @@ impl Table<Vertex> {
         Some(self.get(event.get())?.activities.iter())
     }
 
-    /// Lists a number at the event of a slot, and says whether it is new there.
+    /// Adds a number to the list of a slot's event, and returns whether it is new there.
     ///
-    /// A number takes room in the set of its event alone. Without it, each event lists what it did.
+    /// Only the set of that event allocates. If memory runs out, no list changes.
     fn list(&mut self, slot: usize, number: u32) -> Result<bool, AllocError>
         requires slot { IsSlot self.old slot }
         ensures added { IfOk result (λ added. (e : ℕ) → slot_of self.old e ≡ Some slot
@@ -57,7 +57,7 @@ impl Table<Vertex> {
         Ok(self.slots[slot].activities.insert(number)?)
     }
 
-    /// Lists a number no longer at the event of a slot.
+    /// Removes a number from the list of a slot's event.
     fn unlist(&mut self, slot: usize, number: u32)
         requires slot { IsSlot self.old slot }
         ensures listed { (e : ℕ) → slot_of self.old e ≡ Some slot
@@ -67,7 +67,7 @@ impl Table<Vertex> {
         self.slots[slot].activities.remove(&number);
     }
 
-    /// Lists a number no longer at an event.
+    /// Removes a number from the list of an event.
     fn unlist_at(&mut self, event: EventId, number: u32)
         ensures listed { ListsLess (λ x n. event == x && number == n) self.old.values
             self.new.values }
@@ -78,7 +78,7 @@ impl Table<Vertex> {
         }
     }
 
-    /// Gives the event of a slot another window, or none.
+    /// Replaces the window of a slot's event.
     pub fn rewindow(&mut self, slot: usize, window: Option<Window>)
         requires slot { IsSlot self.old slot }
         ensures events { (e : ℕ) → slot_of self.old e ≡ Some slot
@@ -88,9 +88,9 @@ impl Table<Vertex> {
         self.slots[slot].event.window = window;
     }
 
-    /// Lists an activity at its ends, which have these slots. Without the memory for it, each event lists what it did.
+    /// Lists an activity at its ends, which have these slots. If memory runs out, no list changes.
     ///
-    /// A set gives no room in advance, so the first end lists it no longer where there is none for the second.
+    /// An ordered set cannot reserve room, so the first end is undone if the second one fails.
     pub fn link(&mut self, activity: &Activity, from: usize, to: usize) -> Result<(), AllocError>
         requires from { slot_of self.old activity.now.from ≡ Some from }
         requires to { slot_of self.old activity.now.to ≡ Some to }
@@ -112,7 +112,7 @@ impl Table<Vertex> {
         }
     }
 
-    /// Takes an activity away from its ends.
+    /// Removes an activity from the lists of its ends.
     pub fn unlink(&mut self, activity: &Activity)
         ensures listed { ListsLess (is_pair_of activity.now) self.old.values self.new.values }
         ensures kept { KeepsEvents self.old self.new }
@@ -122,7 +122,7 @@ impl Table<Vertex> {
         self.unlist_at(activity.to, number);
     }
 
-    /// Takes an activity away from those of its ends that it no longer has.
+    /// Removes an activity from the lists of those ends that it no longer has.
     pub fn unlink_old(&mut self, old: &Activity, new: &Activity)
         ensures listed { ListsLess (is_old_pair_of old.now new.now) self.old.values
             self.new.values }
@@ -137,7 +137,7 @@ impl Table<Vertex> {
         }
     }
 
-    /// Lists these activities at their ends, and says whether all of those are events.
+    /// Lists these activities at their ends, and returns whether all of those are events.
     pub fn link_all(&mut self, activities: &Table<Activity>) -> Result<bool, AllocError>
         requires rising { IsStrictlyIncreasing (map (λ a. a.id) activities.now.values) }
         requires none { AreListed self.old.values [] }
@@ -152,7 +152,7 @@ impl Table<Vertex> {
             → events_of self.new.values ≡ events_of self.old.values) }
     {
         for activity in activities.iter() {
-            // Known of the value by its type; the instance keeps it as a fact.
+            // The types' invariants, as facts for that of the instance.
             prove!(activity.id.get() <= GREATEST_NUMBER);
             prove!(activity.span.lower() <= activity.span.upper());
             prove!(activity.weight.get() <= GREATEST_WEIGHT);

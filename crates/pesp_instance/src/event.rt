@@ -20,7 +20,8 @@ impl Event {
         self.window?.only_time()
     }
 
-    /// Whether the event may stand at this residue of the period, by its window.
+    /// Whether the event may take place at this residue of the period: always, unless its window
+    /// excludes it.
     pub fn admits(&self, period: Period, residue: u16) -> bool
         ensures { result ≡ agrees_with period self.now.window residue }
     {

@@ -1,32 +1,36 @@
-//! Guesses of where a number stands, asked before an ordered map is.
+//! A guess at the slot of each number, tried before the ordered map.
+//!
+//! It uses the number's last bits, which suit any numbers, not only dense ones. docs/HISTORY.md has
+//! the measurements under "Numbers looked up by a guess".
 
 use std::alloc::{AllocError, Global};
 use std::collections::BTreeMap;
 
-/// For how many numbers there are guesses at first.
+/// The least number of guesses, unless there are none. It spends 64 bytes to avoid the first
+/// reallocations; no measurement chose it.
 const FIRST_ROOM: usize = 16;
 
-/// A place for the last bits of each number. It may be another number's: whoever asks looks what stands there.
+/// A slot for the last bits of each number. It may be another number's, so callers check it.
 #[derive(Drop)]
 pub struct Guesses {
-    // As many as a power of two, or none.
+    // The length is a power of two, or 0.
     places: Vec<u32>,
 }
 
 impl Guesses {
-    /// No guesses, which take no memory.
+    /// No guesses. Nothing is allocated.
     pub fn new(alloc: Global) -> Self {
         Guesses {
             places: Vec::new(alloc),
         }
     }
 
-    /// Where the guess for a number stands, if there is any.
+    /// The index of a number's guess, if there are guesses.
     fn index(&self, number: u32) -> usize {
         number as usize & self.places.len().wrapping_sub(1)
     }
 
-    /// Where a number may stand.
+    /// The guessed place of a number.
     pub fn place(&self, number: u32) -> Option<usize> {
         match self.places.get(self.index(number)) {
             Some(place) => Some(*place as usize),
@@ -34,7 +38,7 @@ impl Guesses {
         }
     }
 
-    /// Guesses from now on that a number stands at a place.
+    /// Makes a place the guess of a number.
     pub fn keep(&mut self, number: u32, place: usize) {
         let Ok(place) = u32::try_from(place) else {
             return;
@@ -45,7 +49,8 @@ impl Guesses {
         }
     }
 
-    /// Makes sure that there are more guesses than numbers, where these are all that have places.
+    /// Makes sure that there are more guesses than numbers. `numbers` has every number with a
+    /// place.
     pub fn make(&mut self, numbers: &BTreeMap<u32, usize>) -> Result<(), AllocError> {
         if numbers.len() < self.places.len() {
             return Ok(());

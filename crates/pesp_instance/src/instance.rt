@@ -19,11 +19,11 @@ use std::marker::Model;
 /// Each number, window and count is within its limit, and activities lead between events.
 #[derive(Drop)]
 pub struct Instance {
-    // Where the set of a new event takes its memory from.
+    // Allocates the set of a new event.
     pub(crate) alloc: Global,
-    // Each window is one of this period.
+    // Every window fits this period.
     pub(crate) period: Period,
-    // The events, each with the numbers of the activities that have it as an end.
+    // Each event, with the numbers of the activities that end or start there.
     pub(crate) vertices: Table<Vertex>,
     // Each leads between events, and is listed at both.
     pub(crate) activities: Table<Activity>,
@@ -47,7 +47,7 @@ impl Instance {
         ensures value { result ≡ empty_network period }
         ensures network { IsNetwork result }
     {
-        // Known of the value by its type; the instance keeps it as a fact.
+        // The type's invariant, as a fact for that of the instance.
         prove!(period.get() >= LEAST_PERIOD);
         Instance {
             alloc,
@@ -57,8 +57,8 @@ impl Instance {
         }
     }
 
-    /// The instance with all of these activities. Nothing where it has some, a number stands twice, an end is no event, or
-    /// they are too many.
+    /// The instance with all of these activities. None if it already has some, a number occurs
+    /// twice, an end is not an event, or there are too many.
     pub fn with_activities(self, activities: Vec<Activity>) -> Result<Option<Instance>, AllocError>
         ensures filled { IfOk result (λ found. MatchOption found
             ((J : Network) → IsFilled self activities.items J → ⊥)
@@ -75,13 +75,14 @@ impl Instance {
         if activities.len() > max_activities(self.period) {
             return Ok(None);
         }
-        match Table::of(self.alloc, activities)? {
+        match Table::from_values(self.alloc, activities)? {
             Some(activities) => self.with_table(activities),
             None => Ok(None),
         }
     }
 
-    /// The instance with the activities of a table, where it has none. Nothing where an end is no event.
+    /// The instance, which has no activities, with those of a table. None if an end is not an
+    /// event.
     fn with_table(self, activities: Table<Activity>) -> Result<Option<Instance>, AllocError>
         requires none { self.activities ≡ [] }
         requires rising { IsStrictlyIncreasing (map (λ a. a.id) activities.values) }
@@ -111,7 +112,7 @@ impl Instance {
         self.period
     }
 
-    /// Whether the number is an event.
+    /// Whether such an event exists.
     pub fn has_event(&self, event: EventId) -> bool
         ensures value { result ≡ has_event self.now event }
         ensures network { IsNetwork self.now }
@@ -133,7 +134,7 @@ impl Instance {
         self.activities.len()
     }
 
-    /// The activity of a number.
+    /// The activity with this number.
     pub fn activity(&self, id: ActivityId) -> Option<&Activity>
         ensures value { option_copied result ≡ activity_of self.now id }
         ensures network { IsNetwork self.now }
@@ -175,7 +176,7 @@ impl Instance {
         self.activities.iter()
     }
 
-    /// The activities with the event as an end, by rising number, a loop once.
+    /// The activities that have the event as an end, by rising number, a loop once.
     pub fn around(&self, event: EventId) -> Around<'_>
         ensures value { result ≡ around self.now event }
         ensures network { IsNetwork self.now }

@@ -1,6 +1,7 @@
 //! An instance of the periodic event scheduling problem, and its edits.
 //!
-//! Look-ups and walks are never refused memory. Of the edits only `AddEvent`, `AddActivity` and `SetEnds` can be.
+//! Look-ups and walks allocate nothing. Of the edits only `AddEvent`, `AddActivity` and `SetEnds`
+//! can run out of memory.
 #![tactic(auto)]
 
 mod apply;

@@ -1,4 +1,4 @@
-//! What has a number.
+//! Values with a number.
 
 ghost use Rattle.std.specs.Prelude.{◌≡◌, ◌≤◌};
 ghost use Rattle.pesp_base.specs.Limits.{greatest_number};

@@ -1,4 +1,6 @@
-//! A table of numbered values: the values stand in a slab, and an ordered map has the slot of each number.
+//! A table of numbered values: a slab stores the values, an ordered map the slot of each number.
+//!
+//! A slot does not move at an edit, and the map gives walks in order.
 
 ghost use Rattle.std.specs.Prelude.{◌≡◌, ℕ, List, true, false, [], map, Some, None, IfNone, IfSome, IfOk, OnErr, length, option_copied, is_some, is_none};
 ghost use Rattle.std.specs.List.Sorted.{IsStrictlyIncreasing};
@@ -14,14 +16,14 @@ use std::alloc::{AllocError, Global};
 use std::collections::BTreeMap;
 use std::marker::Model;
 
-/// Values by number, seen as the list of the values by rising number, and the slot of each number.
+/// Values by number. The model is the list of values by rising number, and the slot of each number.
 #[derive(Drop)]
 pub struct Table<V: Numbered> {
     // The slot of each number that has a value.
     numbers: BTreeMap<u32, usize>,
-    // The value of each number at its slot, and nothing else.
+    // The value of each number, at its slot. No other slot is used.
     pub(crate) slots: Slab<V>,
-    // Of slots, so that the map is asked for few numbers.
+    // A slot for each number that is tried first, so that few look-ups search the map.
     guesses: Guesses,
 }
 
@@ -38,7 +40,7 @@ impl<V: Numbered> Model for Table<V> {
 }
 
 impl<V: Numbered> Table<V> {
-    /// The empty table, which takes no memory.
+    /// The empty table. Nothing is allocated.
     pub fn new(alloc: Global) -> Self
         ensures { result.values ≡ [] }
     {
@@ -49,8 +51,11 @@ impl<V: Numbered> Table<V> {
         }
     }
 
-    /// The table of these values, and nothing where two of them have one number.
-    pub fn of(alloc: Global, values: Vec<V>) -> Result<Option<Self>, AllocError>
+    /// The table of these values. None if two of them have one number.
+    ///
+    /// One sort is cheaper than an insertion for each value: docs/HISTORY.md, "Activities stored at
+    /// once".
+    pub fn from_values(alloc: Global, values: Vec<V>) -> Result<Option<Self>, AllocError>
         ensures none { IfOk result (λ found. IfNone found
             ((last : List V) → ArePut V.number [] values.items last → ⊥)) }
         ensures put { IfOk result (λ found. IfSome found (λ table.
@@ -98,7 +103,7 @@ impl<V: Numbered> Table<V> {
         self.get(number).is_some()
     }
 
-    /// The slot of a number, where it is guessed.
+    /// The slot of a number, if its guess is right.
     fn guess(&self, number: u32) -> Option<usize>
         ensures { IfSome result (λ slot. slot_of self.now number ≡ Some slot) }
     {
@@ -109,7 +114,7 @@ impl<V: Numbered> Table<V> {
         Some(slot)
     }
 
-    /// The slot of a number, which stays as long as the number has a value.
+    /// The slot of a number, which is the same as long as the number has a value.
     pub fn slot(&self, number: u32) -> Option<usize>
         ensures slot { result ≡ slot_of self.now number }
         ensures present { is_some result ≡ is_some (with_number V.number number self.now.values) }
@@ -120,8 +125,8 @@ impl<V: Numbered> Table<V> {
         }
     }
 
-    /// The value of a slot.
-    pub fn at(&self, slot: usize) -> &V
+    /// The value in a slot.
+    pub fn value_at(&self, slot: usize) -> &V
         requires slot { IsSlot self.now slot }
         ensures { (n : ℕ) → slot_of self.now n ≡ Some slot
             → with_number V.number n self.now.values ≡ Some result.now }
@@ -146,8 +151,8 @@ impl<V: Numbered> Table<V> {
         }
     }
 
-    /// Adds a value, and says whether its number is new. Where it is not, and where there is no memory for it, nothing
-    /// changes.
+    /// Adds a value, and returns whether its number is new. If it is not, or memory runs out,
+    /// nothing changes.
     pub fn insert(&mut self, value: V) -> Result<bool, AllocError>
         ensures added { IfOk result (λ added.
             added ≡ is_none (with_number V.number (V.number value) self.old.values)) }
@@ -164,12 +169,13 @@ impl<V: Numbered> Table<V> {
             self.guesses.keep(number, slot);
             return Ok(true);
         };
-        // The number has a value, which stays in its slot. An entry that is there takes no room.
+        // The number has a value already, so its slot is restored. Replacing an entry allocates
+        // nothing.
         self.numbers.insert(number, slot)?;
         Ok(false)
     }
 
-    /// Puts a value in the slot of its number.
+    /// Replaces the value in the slot of its number.
     pub fn set(&mut self, slot: usize, value: V)
         requires slot { slot_of self.old (V.number value) ≡ Some slot }
         ensures { self.new.values
@@ -178,7 +184,7 @@ impl<V: Numbered> Table<V> {
         self.slots[slot] = value;
     }
 
-    /// Takes the value of a number away, and hands it out.
+    /// Removes the value of a number, and returns it.
     pub fn remove(&mut self, number: u32) -> Option<V>
         ensures value { result ≡ with_number V.number number self.old.values }
         ensures removed { self.new.values ≡ take_out V.number number self.old.values }

@@ -4,7 +4,10 @@ use crate::Event;
 use std::alloc::Global;
 use std::collections::BTreeSet;
 
-/// An event, with the numbers of the activities at it, in order. A loop stands once.
+/// An event, with the numbers of its activities in order, a loop once.
+///
+/// docs/HISTORY.md compares this with one set for all events under "A set of activities for each
+/// event".
 #[derive(Drop)]
 pub struct Vertex {
     pub event: Event,
@@ -14,7 +17,7 @@ pub struct Vertex {
 impl Vertex {
     ghost use Rattle.std.specs.Prelude.{◌≡◌, []};
 
-    /// An event with no activity at it, which takes no memory.
+    /// An event without activities. Nothing is allocated.
     pub fn new(alloc: Global, event: Event) -> Self
         ensures event { result.event ≡ event }
         ensures activities { result.activities.keys ≡ [] }

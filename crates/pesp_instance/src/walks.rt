@@ -10,12 +10,12 @@ use slab::Slab;
 use std::collections::{btree_map, btree_set};
 use std::marker::Model;
 
-/// The values of a table that are left, by rising number.
+/// The remaining values of a table, by rising number.
 #[derive(Drop)]
 pub struct Walk<'a, V> {
-    // Those that are left, each with the slot of its value.
+    // The remaining numbers, each with the slot of its value.
     pub(crate) numbers: btree_map::Iter<'a, u32, usize>,
-    // The table's.
+    // The slots of the table.
     pub(crate) slots: &'a Slab<V>,
 }
 
@@ -49,10 +49,10 @@ impl<'a, V> Iterator for Walk<'a, V> {
     }
 }
 
-/// The events that are left, by rising number.
+/// The remaining events, by rising number.
 #[derive(Drop)]
 pub struct Events<'a> {
-    // Those that are left.
+    // The vertices of the remaining events.
     pub(crate) vertices: Walk<'a, Vertex>,
 }
 
@@ -78,12 +78,12 @@ impl<'a> Iterator for Events<'a> {
     }
 }
 
-/// The activities at an event that are left, by rising number.
+/// The remaining activities at an event, by rising number.
 #[derive(Drop)]
 pub struct Around<'a> {
-    // Nothing where the event is not in the instance.
+    // The remaining numbers, or none if the event is not in the instance.
     pub(crate) numbers: Option<btree_set::Iter<'a, u32>>,
-    // Each number that is left has one here.
+    // Has an activity for each remaining number.
     pub(crate) activities: &'a Table<Activity>,
 }
 

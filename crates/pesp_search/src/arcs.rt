@@ -14,7 +14,7 @@ use pesp_search_graph::Arc;
 use pesp_search_network::Network;
 use std::alloc::Global;
 
-/// The index of an event among ascending ones, of which it is one.
+/// The index of an event in an ascending list that contains it.
 fn index_of(events: &[EventId], event: EventId) -> usize
     requires rises { IsStrictlyIncreasing events.now }
     requires among { Contains events.now event }
@@ -42,7 +42,7 @@ fn arc_of(events: &[EventId], activity: &Activity) -> Arc
     }
 }
 
-/// Gives a network without arcs an arc for each activity.
+/// Adds an arc for each activity to a network without arcs.
 fn add_arcs(network: &mut Network, instance: &Instance, events: &[EventId]) -> Result<(), Memory>
     requires events { events.now ≡ event_ids instance.now }
     requires indices { network.old.events ≡ length events.now }
@@ -58,7 +58,7 @@ fn add_arcs(network: &mut Network, instance: &Instance, events: &[EventId]) -> R
     Ok(())
 }
 
-/// Forbids an event, which might stand at every residue, those that are not in the row.
+/// Removes all residues outside the row from the full domain of an event.
 fn keep_row(network: &mut Network, index: usize, row: &Row)
     requires index { index < network.old.events }
     requires full { (r : ℕ) → r < network.old.period
@@ -79,7 +79,7 @@ fn keep_row(network: &mut Network, index: usize, row: &Row)
     }
 }
 
-/// Forbids each event, which might stand at every residue, those that are not in its domain.
+/// Restricts each event, whose domain in the network is full, to its domain in the keeper.
 fn keep_domains<K: Keeper>(network: &mut Network, keeper: &K, events: &[EventId])
     requires events { events.now ≡ event_ids (K.network keeper.now) }
     requires period { network.old.period ≡ (K.network keeper.now).period }
@@ -95,7 +95,8 @@ fn keep_domains<K: Keeper>(network: &mut Network, keeper: &K, events: &[EventId]
     }
 }
 
-/// Tells of the domains of events without a window that arcs and other domains imply them.
+/// Marks the domains of events without a window as implied by arcs and other domains (docs/HISTORY.md, "Rows
+/// that fixed times imply").
 fn imply_domains(network: &mut Network, instance: &Instance, events: &[EventId])
     ensures { network.new ≡ network.old }
 {
@@ -106,7 +107,7 @@ fn imply_domains(network: &mut Network, instance: &Instance, events: &[EventId])
     }
 }
 
-/// The network of a keeper's instance, in which each event has its domain.
+/// The network of a keeper's instance, with the keeper's domains.
 pub(crate) fn network_of<K: Keeper>(
     alloc: Global,
     keeper: &K,

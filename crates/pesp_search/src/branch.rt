@@ -1,4 +1,4 @@
-//! The path to the node at which a search stands.
+//! The path to the current node of a search.
 
 ghost use Rattle.std.specs.Prelude.{◌≡◌, ◌≤◌, ◌<◌, ◌*◌, ◌-◌, ◌++◌, ◌∷◌, [], IsSome, IsTrue, IfOk, None, length, filter, sum_by, slice_index, vec_capacity};
 ghost use Rattle.pesp_base.specs.Limits.{greatest_period, greatest_weight, max_activities};
@@ -13,25 +13,25 @@ use pesp_instance::Instance;
 use pesp_tension::{Timetable, cost_of_activity};
 use std::alloc::Global;
 
-/// The times of the first events, and what they are known to cost.
+/// The times of the leading events, and their known cost.
 #[derive(Drop)]
 pub(crate) struct Branch {
-    // One for each pushed pair, in the order of the events.
+    // The time of each pushed pair, in the order of the events.
     pub(crate) times: Vec<u16>,
-    // That of the activities both of whose ends have times.
+    // The cost of the activities both of whose ends have times.
     pub(crate) cost: u64,
-    // The times, and for each event after them some time, so that setting one takes no memory.
+    // These times, and any time for each later event, so that setting a time needs no memory.
     pub(crate) timetable: Timetable,
 }
 
-/// Whether neither end of the activity is an event after this one.
+/// Whether neither end of the activity comes after this event.
 fn is_complete_at(activity: &Activity, event: EventId) -> bool
     ensures { result ≡ is_complete_at event activity.now }
 {
     activity.from <= event && activity.to <= event
 }
 
-/// What the activities cost that have the event as an end and none after it.
+/// The cost of the activities that end or start at the event and have no later end.
 fn cost_completed_at(instance: &Instance, timetable: &Timetable, event: EventId) -> u64
     requires { first_missing instance.now timetable.now ≡ None }
     ensures value { result ≡ sum_by (cost_in timetable.now)
@@ -48,7 +48,7 @@ fn cost_completed_at(instance: &Instance, timetable: &Timetable, event: EventId)
     cost
 }
 
-/// Gives an event that has a time another one.
+/// Changes the time of an event that has one.
 pub(crate) fn put_time(timetable: &mut Timetable, event: EventId, time: u16)
     requires known { IsSome (time_of timetable.old event) }
     requires below { time < timetable.old.period }
@@ -57,7 +57,7 @@ pub(crate) fn put_time(timetable: &mut Timetable, event: EventId, time: u16)
     let _ = timetable.set(event, time);
 }
 
-/// Each event at time 0.
+/// The timetable with each event at time 0.
 pub(crate) fn all_at_zero(alloc: Global, instance: &Instance) -> Result<Timetable, Memory>
     ensures { IfOk result (IsFront instance.now []) }
 {
@@ -71,7 +71,7 @@ pub(crate) fn all_at_zero(alloc: Global, instance: &Instance) -> Result<Timetabl
 }
 
 impl Branch {
-    /// No times yet, and all the room that there will be need of.
+    /// An empty path, with all the room that it will need.
     pub(crate) fn new(alloc: Global, instance: &Instance) -> Result<Branch, Memory>
         ensures branch { IfOk result (λ b.
             IsBranch instance.now b.times.items b.cost b.timetable (vec_capacity b.times)) }
@@ -88,7 +88,7 @@ impl Branch {
         })
     }
 
-    /// What would be known with this time of the next event, which the timetable then has after the branch.
+    /// The known cost if the next event gets this time, which the timetable then has too.
     pub(crate) fn cost_with(&mut self, instance: &Instance, event: EventId, time: u16) -> u64
         requires network { IsNetwork instance.now }
         requires branch { IsBranch instance.now self.old.times.items self.old.cost
@@ -106,7 +106,7 @@ impl Branch {
         self.cost + cost_completed_at(instance, &self.timetable, event)
     }
 
-    /// Gives the next event its time.
+    /// Sets the time of the next event.
     pub(crate) fn push(&mut self, instance: &Instance, event: EventId, time: u16)
         requires network { IsNetwork instance.now }
         requires branch { IsBranch instance.now self.old.times.items self.old.cost
@@ -122,7 +122,7 @@ impl Branch {
         self.times.push_reserved(time);
     }
 
-    /// Takes the time of the last event away.
+    /// Removes the time of the last event.
     pub(crate) fn pop(&mut self, instance: &Instance, events: &[EventId]) -> Option<u16>
         requires network { IsNetwork instance.now }
         requires branch { IsBranch instance.now self.old.times.items self.old.cost

@@ -1,4 +1,4 @@
-//! Whether a timetable meets everything, and what it then costs, decided without memory.
+//! Whether a timetable meets everything, and its cost, decided without memory.
 
 ghost use Rattle.std.specs.Prelude.{◌≡◌, ◌↔◌, IfNone, IfSome, IsTrue};
 ghost use Rattle.pesp_instance.specs.Network.{event_ids};
@@ -9,7 +9,7 @@ ghost use Rattle.pesp_tension.specs.Timetables.{IsTimetable, timed_events};
 use pesp_instance::Instance;
 use pesp_tension::{Timetable, agrees_with_all, cost, meets_all};
 
-/// Whether the timetable gives just the events of the instance a time.
+/// Whether the timetable has a time for exactly the events of the instance.
 fn times_the_events(instance: &Instance, timetable: &Timetable) -> bool
     ensures events { IsTrue result ↔ (timed_events timetable.now ≡ event_ids instance.now) }
     ensures within { IsTimetable timetable.now }
@@ -28,10 +28,10 @@ fn times_the_events(instance: &Instance, timetable: &Timetable) -> bool
     times.next().is_none()
 }
 
-/// What the timetable costs, where it is of the instance's period, gives just its events a time and meets
-/// everything; and otherwise nothing.
+/// The cost of the timetable if it has the instance's period, gives exactly its events a time, and meets
+/// everything; none otherwise.
 ///
-/// It is never refused memory.
+/// It allocates nothing.
 pub fn member_cost(instance: &Instance, timetable: &Timetable) -> Option<u64>
     ensures member { IfSome result
         (λ cost. IsMember instance.now timetable.now

@@ -1,4 +1,4 @@
-//! What a search ends with.
+//! The results of a search through the tree.
 
 ghost use Rattle.std.specs.Prelude.{◌≡◌, ◌<◌, All, [], length};
 ghost use Rattle.pesp_instance.specs.Network.{IsNetwork, Network, event_ids};
@@ -16,18 +16,18 @@ use pesp_base::EventId;
 use pesp_instance::Instance;
 use pesp_tension::Timetable;
 
-/// What a search through the tree ends with.
+/// The result of a search through the tree.
 #[derive(Drop)]
 pub(crate) struct Outcome {
-    // None where no times within the bound were found.
+    // None if no times within the bound were found.
     pub(crate) best: Option<Best>,
-    // Whether the limit was reached where another residue was to be tried.
+    // Whether the search stopped at the limit with a residue left to try.
     pub(crate) is_stopped: bool,
-    // One for each push.
+    // The number of pushes.
     pub(crate) nodes: u64,
 }
 
-/// Gives the events these times.
+/// Sets the times of the events.
 pub(crate) fn put_times(
     timetable: &mut Timetable,
     instance: &Instance,
@@ -46,7 +46,7 @@ pub(crate) fn put_times(
     }
 }
 
-/// The best that was found, as a timetable.
+/// The best times found, as a timetable.
 pub(crate) fn best_of(
     incumbent: &Incumbent,
     mut timetable: Timetable,
@@ -71,7 +71,7 @@ pub(crate) fn best_of(
     }
 }
 
-/// The answer of a search that came to its end.
+/// The answer of a search that ended.
 pub(crate) fn answer_of(best: Option<Best>) -> Answer
     ensures { (I : Network) → IsEnd I best → IsAnswer I result }
 {
@@ -84,8 +84,8 @@ pub(crate) fn answer_of(best: Option<Best>) -> Answer
     }
 }
 
-/// What is known with this best, where no timetable that meets everything costs less than the floor.
-pub(crate) fn known(best: Option<Best>, is_stopped: bool, floor: u64) -> Known
+/// What is known with this best timetable, if no timetable that meets everything costs less than the floor.
+pub(crate) fn known_of(best: Option<Best>, is_stopped: bool, floor: u64) -> Known
     ensures best { result.best ≡ best }
     ensures bound { result.lower_bound ≡ told_bound is_stopped best floor }
     ensures stopped { result.is_stopped ≡ is_stopped }
@@ -101,7 +101,7 @@ pub(crate) fn known(best: Option<Best>, is_stopped: bool, floor: u64) -> Known
     }
 }
 
-/// The lowest cost that is known of a timetable: of the one from before, or what was given.
+/// The least known cost of a timetable: that of an earlier one, or the given bound.
 pub(crate) fn lowest(bound: Option<u64>, before: &Option<Best>) -> Option<u64>
     ensures { result ≡ least_bound bound before.now }
 {
@@ -111,7 +111,7 @@ pub(crate) fn lowest(bound: Option<u64>, before: &Option<Best>) -> Option<u64>
     }
 }
 
-/// What was found under the cost of a timetable from before, which is told where a stop found nothing.
+/// The timetable to return: what the tree search found, or the earlier one if it stopped without finding any.
 pub(crate) fn best_told(outcome: Outcome, before: Option<Best>) -> Option<Best>
     ensures { result ≡ told_best outcome.is_stopped outcome.best before }
 {

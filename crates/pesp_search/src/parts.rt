@@ -1,8 +1,8 @@
-//! The connected parts of an instance, and the first event of each one without a window, which is tried at residue 0 alone: all
-//! timetables of such a part may be turned, and this breaks the symmetry.
+//! The connected parts of an instance, and the first event of each part without a window. Only residue 0 is
+//! tried there: all timetables of such a part may be turned, and this breaks the symmetry.
 //!
-//! Labels are found by going along the activities; nothing is proved of how. What is told rests on labels that
-//! were checked: one for both ends of each activity.
+//! Labels are found along the activities. Nothing is proved of how; the result relies only on the check that
+//! both ends of each activity have the same label.
 
 ghost use Rattle.std.specs.Prelude.{◌≡◌, ◌<◌, ◌≤◌, ℕ, false, true, IfOk, IfSome, IsTrue, length, slice_index, slice_index_or};
 ghost use Rattle.pesp_instance.specs.Network.{IsNetwork, Network, event_ids};
@@ -13,7 +13,7 @@ use pesp_base::{Activity, EventId, Memory};
 use pesp_instance::Instance;
 use std::alloc::Global;
 
-/// The index of an event among ascending ones.
+/// The index of an event in an ascending list.
 fn index_of(events: &[EventId], event: EventId) -> Option<usize>
     ensures { IfSome result (λ k. (k < length events.now) × (slice_index events.now k ≡ event)) }
 {
@@ -23,7 +23,7 @@ fn index_of(events: &[EventId], event: EventId) -> Option<usize>
     }
 }
 
-/// Gives an event the label where it has none yet, and puts it after those that wait.
+/// Labels an event that has no label yet, and queues it.
 fn label_event(
     events: &[EventId],
     event: EventId,
@@ -45,7 +45,7 @@ fn label_event(
     Ok(())
 }
 
-/// Gives the label to the events that activities join to this one.
+/// Labels the neighbours of this event.
 fn label_around(
     instance: &Instance,
     events: &[EventId],
@@ -64,7 +64,7 @@ fn label_around(
     Ok(())
 }
 
-/// Gives the label to the event and to all of its part.
+/// Labels the event and all of its part.
 fn label_part(
     instance: &Instance,
     events: &[EventId],
@@ -92,7 +92,7 @@ fn label_part(
 fn labels_of(alloc: Global, instance: &Instance, events: &[EventId]) -> Result<Vec<usize>, Memory>
     ensures { IfOk result (λ labels. length labels.items ≡ length events.now) }
 {
-    // As many as there are events stands for none.
+    // The number of events means no label.
     let Ok(mut labels) = vec![in alloc; events.len(); events.len()] else {
         return Err(Memory);
     };
@@ -114,7 +114,7 @@ fn labels_of(alloc: Global, instance: &Instance, events: &[EventId]) -> Result<V
     Ok(labels)
 }
 
-/// Whether both ends of an activity have one label.
+/// Whether both ends of an activity have the same label.
 fn has_one_label(activity: &Activity, events: &[EventId], labels: &[usize]) -> bool
     requires { length labels.now ≡ length events.now }
     ensures { (I : Network) → IsNetwork I → events.now ≡ event_ids I → result ≡ true
@@ -129,7 +129,7 @@ fn has_one_label(activity: &Activity, events: &[EventId], labels: &[usize]) -> b
     }
 }
 
-/// Whether both ends of each activity have one label.
+/// Whether both ends of each activity have the same label.
 fn are_agreed(instance: &Instance, events: &[EventId], labels: &[usize]) -> bool
     requires events { events.now ≡ event_ids instance.now }
     requires long { length labels.now ≡ length events.now }
@@ -143,7 +143,7 @@ fn are_agreed(instance: &Instance, events: &[EventId], labels: &[usize]) -> bool
     true
 }
 
-/// Takes the mark of an index away, if there is such an index.
+/// Clears the mark at an index, if there is one.
 fn unmark(marks: &mut [bool], index: usize)
     ensures long { length marks.new ≡ length marks.old }
     ensures off { IsUnmarked index marks.old marks.new }
@@ -153,7 +153,7 @@ fn unmark(marks: &mut [bool], index: usize)
     }
 }
 
-/// Takes marks away by the label of the event at an index.
+/// Clears marks for the label of the event at an index.
 fn mark(marks: &mut [bool], index: usize, label: usize, has_window: bool)
     ensures long { length marks.new ≡ length marks.old }
     ensures marked { IsMarked index label has_window marks.old marks.new }
@@ -166,7 +166,7 @@ fn mark(marks: &mut [bool], index: usize, label: usize, has_window: bool)
     }
 }
 
-/// Marks the indices whose event is the first of its label, where no event of that label has a window.
+/// Marks the first event of each label without a windowed event.
 fn first_of_labels(
     alloc: Global,
     instance: &Instance,
@@ -190,7 +190,7 @@ fn first_of_labels(
     Ok(marks)
 }
 
-/// Marks the indices whose event is the first of a connected part without a window.
+/// Marks the first event of each connected part without a window.
 pub(crate) fn least_of_parts(
     alloc: Global,
     instance: &Instance,

@@ -10,7 +10,7 @@ ghost use Rattle.pesp_search.specs.Tree.{AreNodes, WerePushed};
 ghost use Rattle.pesp_search.specs.Known.{IsFloor, IsKnown};
 ghost use Rattle.pesp_search.specs.Tried.{IsFound, MayTry};
 
-use crate::outcome::{answer_of, best_told, known, lowest};
+use crate::outcome::{answer_of, best_told, known_of, lowest};
 use crate::searches::{Ask, Searches};
 use crate::seek::{Sought, seek};
 use crate::steps::has_empty_row;
@@ -37,7 +37,7 @@ fn events_of(alloc: Global, instance: &Instance) -> Result<Vec<EventId>, Memory>
     Ok(events)
 }
 
-/// Goes through the tree for what costs no more than the timetable that was found, if there is one.
+/// Searches the tree for a timetable that costs no more than the one found before, if any.
 fn search_tree<K: Keeper>(
     alloc: Global,
     keeper: &mut K,
@@ -61,15 +61,16 @@ fn search_tree<K: Keeper>(
     ensures unpushed { OnErr result (K.push_count keeper.new ≡ K.push_count keeper.old) }
 {
     let lowest = lowest(ask.bound, &sought.best);
-    // All memory is taken here, before the first node: `run` has no allocator.
+    // Everything is allocated here, before the first node: `run` has no allocator.
     let search = TreeSearch::new(alloc, keeper, events, lowest, ask.limit)?;
     let outcome = search.run(keeper);
     let (is_stopped, nodes) = (outcome.is_stopped, outcome.nodes);
     let best = best_told(outcome, sought.best);
-    Ok((known(best, is_stopped, sought.floor), nodes))
+    Ok((known_of(best, is_stopped, sought.floor), nodes))
 }
 
-/// Asks the search by cycles, and where that does not come to its end goes through the tree.
+/// Searches by cycles, and through the tree if that search does not end. In this order everything is allocated
+/// before the first node (docs/DECISIONS.md, "Search").
 fn search_in_turn<K: Keeper>(
     alloc: Global,
     keeper: &mut K,
@@ -91,12 +92,12 @@ fn search_in_turn<K: Keeper>(
 {
     let sought = seek(alloc, keeper, events, before, ask)?;
     if sought.is_end {
-        return Ok((known(sought.best, false, sought.floor), 0));
+        return Ok((known_of(sought.best, false, sought.floor), 0));
     }
     search_tree(alloc, keeper, events, sought, ask)
 }
 
-/// Looks for an empty domain, and else searches.
+/// Searches, unless a domain is empty: then nothing has to be built.
 fn search<K: Keeper>(
     alloc: Global,
     keeper: &mut K,
@@ -114,20 +115,20 @@ fn search<K: Keeper>(
         (K.push_count keeper.new)) }
     ensures unpushed { OnErr result (K.push_count keeper.new ≡ K.push_count keeper.old) }
 {
-    // The order in which the tree gives them their times.
+    // The order in which the tree sets their times.
     let events = events_of(alloc, keeper.instance())?;
     if has_empty_row(keeper, &events) {
-        return Ok((known(None, false, u64::MAX), 0));
+        return Ok((known_of(None, false, u64::MAX), 0));
     }
     search_in_turn(alloc, keeper, &events, before, ask)
 }
 
 /// The optimum of the keeper's instance, and the number of nodes.
 ///
-/// The optimum is the first timetable of least cost: of those that meet everything none costs less, and
-/// each one that has a smaller time at the first event at which the two differ costs more. A node is one
-/// pushed pair; no more are told than the tree without cuts has. Where a bound is given, some timetable that
-/// meets everything has to cost at most that. The keeper is left as it was.
+/// The optimum is the first timetable of least cost: none that meets everything costs less, and each one with a
+/// smaller time at the first event where they differ costs more. A node is one pushed pair; their number is at
+/// most the size of the uncut tree. If a bound is given, some timetable that meets everything must cost at most
+/// that. The keeper is unchanged.
 pub fn best<K: Keeper>(
     alloc: Global,
     keeper: &mut K,
@@ -150,10 +151,11 @@ pub fn best<K: Keeper>(
     Ok((answer_of(known.best), nodes))
 }
 
-/// What is known of the keeper's instance when the search ends, or when as many nodes were counted as the limit, if there is one.
+/// What is known of the keeper's instance when the search ends, or when the number of nodes reaches the limit,
+/// if there is one.
 ///
-/// Searches by cycles that stopped are gone on with where they are of this instance, and what stops now is kept for the next one.
-/// What is told is that of [`known_within`].
+/// Stopped searches by cycles are resumed if they are of this instance, and a search that stops now is kept for
+/// the next call. The result is that of [`known_within`].
 pub fn known_after<K: Keeper>(
     alloc: Global,
     keeper: &mut K,
@@ -176,11 +178,11 @@ pub fn known_after<K: Keeper>(
     search(alloc, keeper, before, Ask { bound, limit })
 }
 
-/// What is known of the keeper's instance when the search ends, or when as many nodes were counted as the limit.
+/// What is known of the keeper's instance when the search ends, or when the number of nodes reaches the limit.
 ///
-/// It stops only where the tree has more nodes than the limit. Where some timetable that meets everything
-/// within the bound is reached by the limit in the tree without cuts, what it stops with costs no more than that one.
-/// No timetable that meets everything costs less than the lower bound, also none above the bound that is given.
+/// The search stops only if the tree has more nodes than the limit. If the uncut tree reaches some timetable
+/// that meets everything within the bound before the limit, a stopped search returns one that costs no more. No
+/// timetable that meets everything costs less than the lower bound, including those above the given bound.
 pub fn known_within<K: Keeper>(
     alloc: Global,
     keeper: &mut K,
@@ -202,7 +204,7 @@ pub fn known_within<K: Keeper>(
     known_after(alloc, keeper, &mut Searches::new(alloc), bound, Some(limit))
 }
 
-/// The optimum as [`best`] finds it, or what was found when as many nodes were counted as the limit.
+/// The optimum as [`best`] finds it, or the best timetable found when the number of nodes reaches the limit.
 ///
 /// It stops as [`known_within`] does.
 pub fn best_within<K: Keeper>(

@@ -1,19 +1,19 @@
-//! Searches that can be gone on with, and what is asked of one.
+//! Searches that can be resumed, and the request to a search.
 
 use pesp_search_cycles::ByCycles;
 use std::alloc::Global;
 
-/// What is kept of searches that stopped: where the same instance is searched again, they are gone on with.
+/// Stopped searches, which are resumed if the same instance is searched again.
 #[derive(Drop)]
 pub struct Searches {
-    // Of any networks: one is compared with that of an instance before it is gone on with.
+    // Of any networks: their networks are compared with the instance's before they are resumed.
     pub(crate) cycles: ByCycles,
     // Whether the last search was one by cycles.
     pub(crate) by_cycles: bool,
 }
 
 impl Searches {
-    /// Nothing was searched yet.
+    /// A state before the first search.
     pub fn new(alloc: Global) -> Searches {
         Searches {
             cycles: ByCycles::new(alloc),
@@ -21,17 +21,17 @@ impl Searches {
         }
     }
 
-    /// Whether the last search, if it stopped, is gone on with: one through the tree begins anew.
+    /// Whether the last search, if it stopped, can be resumed. A search through the tree always restarts.
     pub fn goes_on(&self) -> bool {
         self.by_cycles
     }
 }
 
-/// What is asked of a search.
+/// The request to a search.
 #[derive(Clone, Copy)]
 pub(crate) struct Ask {
-    // What some timetable that meets everything is known to cost at most, if that is known.
+    // An upper bound on the least cost, if one is known.
     pub(crate) bound: Option<u64>,
-    // How many nodes there may be; any where there is none.
+    // The most nodes; None without a limit.
     pub(crate) limit: Option<u64>,
 }

@@ -1,4 +1,4 @@
-//! The search by cycles, which is asked before the tree is gone through.
+//! The search by cycles, which comes before the tree.
 
 ghost use Rattle.std.specs.Prelude.{◌≡◌, ◌↔◌, ℕ, ◌+◌, ◌-◌, ◌*◌, ◌<◌, ◌^◌, min, [], false, IfOk, IfSome, All, None, Some, length, option_map};
 ghost use Rattle.pesp_instance.specs.Network.{IsNetwork, event_ids};
@@ -23,35 +23,37 @@ use pesp_search_least::{Budget, Candidate, First, Limits, Outcome};
 use pesp_search_network::{Network, Reduction};
 use std::alloc::Global;
 
-/// How many units of work stand for a node of the limit.
+/// The units of work for each node of the limit: more prove more within a limit and take longer
+/// (docs/DECISIONS.md, "Search"). No trial of this number is recorded.
 const UNITS_OF_NODE: u64 = 20;
 
-/// How many units a local search has where there is no limit and there are too many cycles.
+/// The units of a local search if there is no limit and there are too many cycles: more improve the timetable
+/// and delay the tree. No trial of this number is recorded.
 const ROUGH_UNITS: u64 = 20_000;
 
-/// What the search by cycles comes to.
+/// The result of the search by cycles.
 #[derive(Drop)]
 pub(crate) struct Sought {
-    // At the end the optimum, or none; else what was found, if anything was.
+    // At the end the optimum, or none if there is none; otherwise the best timetable found, if any.
     pub(crate) best: Option<Best>,
     // No timetable that meets everything costs less.
     pub(crate) floor: u64,
-    // Whether the search came to its end.
+    // Whether the search ended.
     pub(crate) is_end: bool,
 }
 
-/// The same of maps of the events to residues.
+/// The same result, as a map from events to residues.
 #[derive(Drop)]
 struct SoughtMap {
-    // At the end the first map of least cost, or none; else what was found, if anything was.
+    // At the end the first map of least cost, or none if there is none; otherwise the best map found, if any.
     best: Option<Candidate>,
     // No map costs less.
     floor: u64,
-    // Whether the search came to its end.
+    // Whether the search ended.
     is_end: bool,
 }
 
-/// What the search may do: so many units for each node of the limit, and one for each network that is known.
+/// The budget of the search: units for each node of the limit, and one for each solved network.
 fn budget_of(limit: Option<u64>, known: usize) -> Budget
     ensures { result.left
         ≡ option_map (λ nodes. min (2 ^ 64 - 1) (nodes * 20 + known)) limit }
@@ -65,7 +67,8 @@ fn budget_of(limit: Option<u64>, known: usize) -> Budget
     }
 }
 
-/// The cap below which are the costs within the bound.
+/// The cap below which exactly the costs within the bound are: the bound plus 1, so that a timetable at the
+/// bound is kept.
 fn cap_of(bound: Option<u64>) -> u64
     ensures { IsCap bound result }
 {
@@ -75,7 +78,7 @@ fn cap_of(bound: Option<u64>) -> u64
     }
 }
 
-/// From a map of least cost to the first one.
+/// The first map of least cost, given any map of least cost.
 fn first_map(
     alloc: Global,
     cycles: &mut ByCycles,
@@ -101,7 +104,7 @@ fn first_map(
     })
 }
 
-/// The first map of least cost, where some cost is below the cap.
+/// The first map of least cost, if some cost is below the cap.
 fn seek_by_cycles(
     alloc: Global,
     cycles: &mut ByCycles,
@@ -152,7 +155,7 @@ fn rough_map(
     })
 }
 
-/// What is sought among the maps of a network below a cap: by cycles, or where these are too many by a local search.
+/// Searches the maps of a network below a cap: by cycles, or by a local search if there are too many cycles.
 fn seek_in(
     alloc: Global,
     before: &mut Searches,
@@ -173,7 +176,7 @@ fn seek_in(
     seek_by_cycles(alloc, cycles, network, cap, &mut budget)
 }
 
-/// What was sought among the maps of a reduced network, told of those of the other.
+/// The result for the original network, from that for its reduction.
 fn lifted_map(
     alloc: Global,
     network: &Network,
@@ -209,7 +212,7 @@ fn lifted_map(
     }
 }
 
-/// What is sought among the maps of a network below a cap: in the one that is searched in its place.
+/// Searches the maps of a network below a cap, in its reduction.
 fn seek_map(
     alloc: Global,
     before: &mut Searches,
@@ -256,7 +259,7 @@ fn best_of_map(
     })
 }
 
-/// The same with the timetable of the map.
+/// The same result with the timetable of the map.
 fn with_times(
     alloc: Global,
     instance: &Instance,
@@ -287,7 +290,7 @@ fn with_times(
     })
 }
 
-/// What the search by cycles comes to, or where there are too many a local search; with limit 0 neither is begun.
+/// Searches by cycles, or locally if there are too many cycles. With limit 0 it does neither.
 pub(crate) fn seek<K: Keeper>(
     alloc: Global,
     keeper: &K,

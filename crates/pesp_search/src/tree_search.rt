@@ -1,4 +1,5 @@
-//! The search through the tree: depth first, with backtracking, and pruned where the lower bound reaches the incumbent's cost.
+//! The search through the tree: depth first, with backtracking, and pruned by the incumbent's cost. It does not
+//! look ahead: bounds in the tree gave almost nothing (docs/DECISIONS.md, "Search").
 
 ghost use Rattle.std.specs.Prelude.{◌≡◌, ◌≢◌, ◌+◌, ◌-◌, ◌^◌, ◌<◌, min, [], true, false, Some, IfOk, IfSome, length, vec_capacity};
 ghost use Rattle.pesp_instance.specs.Network.{IsNetwork, event_ids};
@@ -20,28 +21,29 @@ use pesp_base::{EventId, Memory};
 use pesp_domains::Keeper;
 use std::alloc::Global;
 
-/// A search through the tree, in the order of events and residues, which leaves out what is of no use.
+/// A search through the tree, in the order of events and residues, without subtrees that are not useful.
 ///
-/// It takes no memory: branch and incumbent have all the room that there will be need of.
+/// It allocates nothing: branch and incumbent have all the room that they will need.
 #[derive(Drop)]
 pub(crate) struct TreeSearch<'a> {
-    // Those of the instance, ascending: the order in which they are given their times.
+    // The events of the instance, ascending: the order in which their times are set.
     pub(crate) events: &'a [EventId],
-    // Marks the events, by index, at which residue 0 alone is tried.
+    // For each event whether only residue 0 is tried there.
     pub(crate) least: Vec<bool>,
-    // The path to the node at which the search stands: its times are pushed, and no others.
+    // The path to the current node: exactly its times are pushed.
     pub(crate) branch: Branch,
-    // The best of all times before the node.
+    // The best of all times found before the node.
     pub(crate) incumbent: Incumbent,
-    // The least residue that is yet to be tried at the event after the branch.
+    // The least residue not yet tried at the event after the branch.
     pub(crate) from: u16,
-    // One for each push, those that were popped included.
+    // The number of pushes, including those popped since.
     pub(crate) nodes: u64,
-    // There are no more nodes; None where there may be any number.
+    // The most nodes; None without a limit.
     pub(crate) limit: Option<u64>,
 }
 
-/// Whether as many nodes were counted as the limit, if there is one.
+/// Whether the number of nodes has reached the limit. It is tested before a push, so a stop means that the tree
+/// is larger (docs/DECISIONS.md, "Search").
 fn is_reached(limit: Option<u64>, nodes: u64) -> bool
     ensures yes { result ≡ true → limit ≡ Some nodes }
     ensures no { result ≡ false → IfSome limit (λ l. l ≢ nodes) }
@@ -52,7 +54,7 @@ fn is_reached(limit: Option<u64>, nodes: u64) -> bool
     }
 }
 
-/// Pops all that is pushed.
+/// Pops all pushed pairs.
 fn unwind<K: Keeper>(keeper: &mut K, depth: usize)
     requires { length (K.pushes keeper.old) ≡ depth }
     ensures network { K.network keeper.new ≡ K.network keeper.old }
@@ -65,7 +67,7 @@ fn unwind<K: Keeper>(keeper: &mut K, depth: usize)
 }
 
 impl<'a> TreeSearch<'a> {
-    /// A search before its first node. All its memory is taken here.
+    /// A search before its first node. Everything is allocated here.
     pub(crate) fn new<K: Keeper>(
         alloc: Global,
         keeper: &K,
@@ -98,7 +100,8 @@ impl<'a> TreeSearch<'a> {
 }
 
 impl TreeSearch<'_> {
-    /// The first residue of the next event's domain, from one on, with which the known cost is below the limit.
+    /// The first useful residue of the next event's domain from `first` on: one whose known cost the incumbent
+    /// does not cut. It is tested before the push, which costs more.
     fn next_of_use<K: Keeper>(&mut self, keeper: &K, first: u16) -> Option<u16>
         requires searching { IsSearching (K.network keeper.now) (K.pushes keeper.now) self.old }
         requires room { length self.old.branch.times.items < length self.old.events.now }
@@ -121,7 +124,8 @@ impl TreeSearch<'_> {
         None
     }
 
-    /// Goes down to a residue of use from the first one on that the domains leave, or back up where there is none.
+    /// Descends to the first useful residue from `first` on that the domains allow, or backtracks if there is
+    /// none.
     fn step_from<K: Keeper>(&mut self, keeper: &K, first: u16) -> Step
         requires searching { IsSearching (K.network keeper.now) (K.pushes keeper.now) self.old }
         requires first { IsNext Nothing (K.network keeper.now) self.old.branch.times.items
@@ -139,7 +143,7 @@ impl TreeSearch<'_> {
         }
     }
 
-    /// What to do at the node.
+    /// The step at the node.
     fn step<K: Keeper>(&mut self, keeper: &K) -> Step
         requires searching { IsSearching (K.network keeper.now) (K.pushes keeper.now) self.old }
         ensures searching { GoesOn (K.network keeper.now) (K.pushes keeper.now) self.old self.new }
@@ -156,7 +160,7 @@ impl TreeSearch<'_> {
         }
     }
 
-    /// Goes down to the residue: the one push of a search, which counts a node; the count stays at the greatest number.
+    /// Descends to the residue: the only push of a search. It counts a node; the count saturates.
     fn descend<K: Keeper>(&mut self, keeper: &mut K, residue: u16)
         requires searching { IsSearching (K.network keeper.old) (K.pushes keeper.old) self.old }
         requires step { IsStepAt (K.network keeper.old) self.old (steps.Descend residue) }
@@ -174,7 +178,7 @@ impl TreeSearch<'_> {
         self.from = 0;
     }
 
-    /// Goes back up to the event before, if there is one: the one pop.
+    /// Backtracks to the event before, if there is one: the only pop.
     fn backtrack<K: Keeper>(&mut self, keeper: &mut K) -> bool
         requires searching { IsSearching (K.network keeper.old) (K.pushes keeper.old) self.old }
         requires over { IsOver (K.network keeper.old) self.old }
@@ -195,7 +199,7 @@ impl TreeSearch<'_> {
         }
     }
 
-    /// Keeps the times of a leaf, which are better, and goes back up.
+    /// Keeps the times of a leaf, which are better, and backtracks.
     fn keep_leaf<K: Keeper>(&mut self, keeper: &mut K) -> bool
         requires searching { IsSearching (K.network keeper.old) (K.pushes keeper.old) self.old }
         requires leaf { IsStepAt (K.network keeper.old) self.old steps.Leaf }
@@ -210,7 +214,7 @@ impl TreeSearch<'_> {
         self.backtrack(keeper)
     }
 
-    /// Pops what is pushed, and tells what was found.
+    /// Pops all pushed pairs, and returns the result.
     fn finish<K: Keeper>(self, keeper: &mut K, is_stopped: bool) -> Outcome
         requires searching { IsSearching (K.network keeper.old) (K.pushes keeper.old) self }
         requires end { MayEnd (K.network keeper.old) self is_stopped }
@@ -239,7 +243,7 @@ impl TreeSearch<'_> {
         }
     }
 
-    /// Goes through the tree from the node on.
+    /// Searches the tree from the current node on.
     pub(crate) fn run<K: Keeper>(mut self, keeper: &mut K) -> Outcome
         requires searching { IsSearching (K.network keeper.old) (K.pushes keeper.old) self }
         requires start { self.nodes ≡ 0 }

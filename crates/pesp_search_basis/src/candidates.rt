@@ -8,34 +8,35 @@ use pesp_base::Memory;
 use pesp_search_graph::Step;
 use std::alloc::Global;
 
-/// What a step counts for in the work: it is looked up in several places.
+/// The work of a step, as a number of visited numbers: a step reads several arrays. It only affects how fast a
+/// budget is spent; no trial of this number is recorded.
 const STEP_WORK: u64 = 4;
 
-/// A candidate counts for so many steps, since it is put in order.
+/// The work of a candidate besides its steps, in steps: candidates are sorted.
 const CANDIDATE_STEPS: u64 = 4;
 
-/// An odd number whose bits are mixed.
+/// An odd number with mixed bits (2^64 divided by the golden ratio), for hashing.
 const MIXER: u64 = 11_400_714_819_323_198_485;
 
-/// A cycle of an arc and the ways to its ends, from where these part.
+/// The cycle of an arc and the shortest paths to its ends, from where these diverge.
 #[derive(Clone, Copy, PartialEq, Eq, PartialOrd, Ord)]
 struct Candidate {
-    // First, since the shortest is taken first.
+    // The first field, so that shorter candidates sort first.
     length: u64,
-    // How many the ways have from where they part.
+    // The number of steps of both paths, from where they diverge.
     steps: usize,
-    // The index of the ways.
+    // The index of the root's shortest paths.
     ways: usize,
-    // On neither of the two ways.
+    // An arc on neither of the two paths.
     arc: usize,
 }
 
-/// Adds the work of so many steps.
+/// Adds the work of steps.
 fn bill(work: &mut u64, steps: u64) {
     *work = work.saturating_add(steps.saturating_mul(STEP_WORK));
 }
 
-/// The candidate of an arc and the ways of this index.
+/// The candidate of an arc and the shortest paths of one root.
 fn candidate_of(ways: &Ways, graph: &Graph, index: usize, arc: usize) -> Option<Candidate> {
     let link = graph.link(arc)?;
     if ways.last(link.from) == Some(arc) || ways.last(link.to) == Some(arc) {
@@ -73,8 +74,7 @@ fn candidates_of(
     Ok(candidates)
 }
 
-/// The shortest candidates of which none is a sum of others: as many as there are links outside
-/// of a spanning forest.
+/// The shortest linearly independent candidates, one for each link outside a spanning forest.
 pub(crate) fn shortest(
     alloc: Global,
     graph: &Graph,
@@ -82,7 +82,7 @@ pub(crate) fn shortest(
     all: &[Ways],
     work: &mut u64,
 ) -> Result<Vec<Vec<Step>>, Memory> {
-    let mut space = Space::of(alloc, graph.arcs(), outside)?;
+    let mut space = Space::new(alloc, graph.arcs(), outside)?;
     let mut cycles = Vec::new(alloc);
     let mut steps = Vec::new(alloc);
     for candidate in &candidates_of(alloc, graph, all, work)? {
@@ -100,7 +100,7 @@ pub(crate) fn shortest(
     Ok(cycles)
 }
 
-/// What tells one cycle from another, whichever step is its first: nearly always another number.
+/// A hash of a cycle that does not depend on where it starts. Different cycles seldom have the same one.
 fn mark_of(steps: &[Step]) -> u64 {
     let mut mark: u64 = 0;
     for step in steps {
@@ -111,7 +111,7 @@ fn mark_of(steps: &[Step]) -> u64 {
     mark
 }
 
-/// The shortest candidates, so many at most, and each once.
+/// The shortest candidates, at most `most`, without duplicates.
 pub(crate) fn narrowest(
     alloc: Global,
     graph: &Graph,
@@ -121,7 +121,7 @@ pub(crate) fn narrowest(
 ) -> Result<Vec<Vec<Step>>, Memory> {
     let mut cycles = Vec::new(alloc);
     let mut steps = Vec::new(alloc);
-    // Those of the cycles of one length.
+    // The hashes of the kept cycles of the current length: only these can be duplicates.
     let mut marks = Vec::new(alloc);
     let mut length = 0;
     for candidate in &candidates_of(alloc, graph, all, work)? {

@@ -12,20 +12,21 @@ use pesp_base::{Memory, Period};
 use pesp_search_graph::{Arc, Step};
 use std::alloc::Global;
 
-/// What a node or an end of an arc counts for in the work of least ways: it goes through a queue.
+/// The work of a node, or of an end of an arc, in a shortest-path search: each goes through a heap. It only
+/// affects how fast a budget is spent; no trial of this number is recorded.
 const WAY_WORK: u64 = 12;
 
-/// How many cycles make up all others: arcs less nodes, and parts more.
+/// The cyclomatic number: arcs less nodes plus parts.
 ///
-/// Loops do not count, nor do idle arcs, which constrain nothing and cost nothing: their width is
-/// the period less one, and their weight 0.
+/// Loops and idle arcs do not count. An idle arc constrains nothing and costs nothing: its width is the period
+/// less 1, its weight 0.
 pub fn cycle_count(
     alloc: Global,
     period: Period,
     nodes: usize,
     arcs: &[Arc],
 ) -> Result<usize, Memory> {
-    let mut parts = Parts::of(alloc, nodes)?;
+    let mut parts = Parts::new(alloc, nodes)?;
     let mut count = 0usize;
     for link in &links_of(alloc, period, nodes, arcs, Idle::LeftOut)? {
         if let Some(link) = link {
@@ -37,11 +38,11 @@ pub fn cycle_count(
     Ok(count)
 }
 
-/// Cycles that make up all others: each arc outside of a spanning forest of least width with its
-/// way through the forest, narrow arcs first.
+/// A fundamental cycle basis: each arc outside a spanning forest of least width with its path through the
+/// forest, narrow arcs first.
 ///
-/// Each step begins where the one before it ends, and the first where the last ends. A cycle
-/// passes no node twice.
+/// Each step starts where the one before it ends, and the first where the last ends. A cycle visits no node
+/// twice.
 pub fn tree_cycles(
     alloc: Global,
     period: Period,
@@ -49,8 +50,8 @@ pub fn tree_cycles(
     arcs: &[Arc],
 ) -> Result<Vec<Vec<Step>>, Memory> {
     let links = links_of(alloc, period, nodes, arcs, Idle::LeftOut)?;
-    let (ways, outside) = Forest::of(alloc, nodes, links.as_slice())?.into_ways(alloc, nodes)?;
-    let graph = Graph::of(alloc, nodes, links)?;
+    let (ways, outside) = Forest::new(alloc, nodes, links.as_slice())?.into_ways(alloc, nodes)?;
+    let graph = Graph::new(alloc, nodes, links)?;
     let mut cycles = Vec::new(alloc);
     for arc in &outside {
         let mut steps = Vec::new(alloc);
@@ -60,7 +61,8 @@ pub fn tree_cycles(
     Ok(cycles)
 }
 
-/// The least ways from each root, and at the end those by the forest.
+/// The shortest paths from each root, and last those in the forest. Roots are enough, and fewer than all nodes
+/// (docs/HISTORY.md, "What the search could do without").
 fn all_ways(
     alloc: Global,
     graph: &Graph,
@@ -79,13 +81,13 @@ fn all_ways(
     Ok(all)
 }
 
-/// Narrow cycles that make up all others: as many as those of a forest, and in all no wider.
+/// A cycle basis of narrow cycles, in total no wider than that of a forest.
 ///
-/// By Horton's algorithm: each is an arc with least ways to its ends, from one of some nodes that
-/// no cycle avoids. The narrow ones are taken first, and none that is a sum of others over two. A
-/// way gets longer by 1,000 with a unit of width, and by one with a step.
+/// This is Horton's algorithm: each candidate is an arc with the shortest paths to its ends from one of the
+/// roots, which together meet every cycle. Candidates are taken in ascending order, unless they are sums of
+/// others modulo 2. A unit of width adds 1,000 to the length of a path, a step adds one.
 ///
-/// The work grows by one with each number of a row that is gone through, and by what takes as long.
+/// The work grows by one for each visited number of a row, and by a comparable amount for other steps.
 pub fn narrow_cycles(
     alloc: Global,
     period: Period,
@@ -94,13 +96,15 @@ pub fn narrow_cycles(
     work: &mut u64,
 ) -> Result<Vec<Vec<Step>>, Memory> {
     let links = links_of(alloc, period, nodes, arcs, Idle::LeftOut)?;
-    let (by_forest, outside) = Forest::of(alloc, nodes, links.as_slice())?.into_ways(alloc, nodes)?;
-    let graph = Graph::of(alloc, nodes, links)?;
+    let (by_forest, outside) = Forest::new(alloc, nodes, links.as_slice())?.into_ways(
+        alloc, nodes,
+    )?;
+    let graph = Graph::new(alloc, nodes, links)?;
     let all = all_ways(alloc, &graph, by_forest, work)?;
     shortest(alloc, &graph, outside.as_slice(), all.as_slice(), work)
 }
 
-/// The narrowest cycles of that kind, so many at most, whether they are sums of others or not.
+/// The narrowest candidates, at most this number, whether or not they are sums of others.
 pub fn candidate_cycles(
     alloc: Global,
     period: Period,
@@ -110,8 +114,8 @@ pub fn candidate_cycles(
     work: &mut u64,
 ) -> Result<Vec<Vec<Step>>, Memory> {
     let links = links_of(alloc, period, nodes, arcs, Idle::LeftOut)?;
-    let (by_forest, _) = Forest::of(alloc, nodes, links.as_slice())?.into_ways(alloc, nodes)?;
-    let graph = Graph::of(alloc, nodes, links)?;
+    let (by_forest, _) = Forest::new(alloc, nodes, links.as_slice())?.into_ways(alloc, nodes)?;
+    let graph = Graph::new(alloc, nodes, links)?;
     let all = all_ways(alloc, &graph, by_forest, work)?;
     narrowest(alloc, &graph, all.as_slice(), most, work)
 }

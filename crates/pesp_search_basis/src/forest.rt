@@ -1,7 +1,7 @@
 //! Forests.
 
 use crate::graph::Graph;
-use crate::growth::{add, repeated};
+use crate::growth::{add, repeat};
 use crate::link::Link;
 use crate::parts::Parts;
 use crate::ways::Ways;
@@ -11,13 +11,13 @@ use std::alloc::Global;
 /// A spanning forest of least width.
 #[derive(Drop)]
 pub(crate) struct Forest {
-    // For each arc what it joins, where it is one of the forest.
+    // For each arc its link, if the arc is in the forest.
     links: Vec<Option<Link>>,
-    /// The links outside of it, short ones first: each makes one cycle with it.
+    /// The links outside the forest, short ones first. Each closes one cycle with the forest.
     pub(crate) outside: Vec<usize>,
 }
 
-/// The arcs that are links, short ones first.
+/// The arcs that have links, short ones first.
 fn by_length(alloc: Global, links: &[Option<Link>]) -> Result<Vec<(u64, usize)>, Memory> {
     let mut order = Vec::new(alloc);
     for (arc, link) in links.iter().enumerate() {
@@ -30,15 +30,15 @@ fn by_length(alloc: Global, links: &[Option<Link>]) -> Result<Vec<(u64, usize)>,
 }
 
 impl Forest {
-    /// The forest of the first of the links, short ones first, that join what was not joined.
-    pub(crate) fn of(
+    /// Kruskal's forest: of the links in ascending order, those that join two parts.
+    pub(crate) fn new(
         alloc: Global,
         nodes: usize,
         links: &[Option<Link>],
     ) -> Result<Forest, Memory> {
-        let mut parts = Parts::of(alloc, nodes)?;
+        let mut parts = Parts::new(alloc, nodes)?;
         let mut forest = Forest {
-            links: repeated(alloc, None, links.len())?,
+            links: repeat(alloc, None, links.len())?,
             outside: Vec::new(alloc),
         };
         for (_, arc) in &by_length(alloc, links)? {
@@ -53,13 +53,13 @@ impl Forest {
         Ok(forest)
     }
 
-    /// The ways by the forest to each node, from the first one of its part; and the links outside.
+    /// The paths in the forest to each node from the first node of its part, and the links outside.
     pub(crate) fn into_ways(
         self,
         alloc: Global,
         nodes: usize,
     ) -> Result<(Ways, Vec<usize>), Memory> {
-        let graph = Graph::of(alloc, nodes, self.links)?;
+        let graph = Graph::new(alloc, nodes, self.links)?;
         let mut ways = Ways::none(alloc, nodes)?;
         for node in 0..nodes {
             if !ways.is_reached(node) {

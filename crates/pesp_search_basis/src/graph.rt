@@ -1,24 +1,24 @@
 //! Graphs.
 
-use crate::growth::repeated;
+use crate::growth::repeat;
 use crate::link::Link;
 use pesp_base::Memory;
 use std::alloc::Global;
 
-/// The arcs that ways go by, at each node.
+/// An adjacency list of the arcs that paths may use.
 #[derive(Drop)]
 pub(crate) struct Graph {
-    // For each arc what it joins; none where no way goes by it.
+    // For each arc its link; none if no path may use the arc.
     links: Vec<Option<Link>>,
-    // By node, and at one node by index, the arcs that are there.
+    // The arcs at each node, node by node, in ascending order at each.
     ends: Vec<usize>,
-    // For each node where its arcs stop among these; they begin where those of the one before stop.
+    // For each node the end of its arcs in `ends`. They start where those of the node before end.
     stops: Vec<usize>,
 }
 
-/// For each node how many arcs are at it.
+/// The number of arcs at each node.
 fn degrees_of(alloc: Global, nodes: usize, links: &[Option<Link>]) -> Result<Vec<usize>, Memory> {
-    let mut degrees = repeated(alloc, 0usize, nodes)?;
+    let mut degrees = repeat(alloc, 0usize, nodes)?;
     for link in links {
         if let Some(link) = link {
             for node in [link.from, link.to] {
@@ -31,7 +31,7 @@ fn degrees_of(alloc: Global, nodes: usize, links: &[Option<Link>]) -> Result<Vec
     Ok(degrees)
 }
 
-/// Puts the sum of all numbers before it in place of each, and tells the sum of all.
+/// Replaces each number by the sum of all before it, and returns the total.
 fn sum_before(numbers: &mut [usize]) -> usize {
     let mut sum = 0usize;
     for number in numbers.iter_mut() {
@@ -42,7 +42,7 @@ fn sum_before(numbers: &mut [usize]) -> usize {
     sum
 }
 
-/// Puts an arc where the next one at a node has its place.
+/// Writes an arc at the next free place of a node.
 fn put(ends: &mut [usize], places: &mut [usize], node: usize, arc: usize) {
     if let Some(place) = places.get_mut(node) {
         if let Some(end) = ends.get_mut(*place) {
@@ -53,15 +53,15 @@ fn put(ends: &mut [usize], places: &mut [usize], node: usize, arc: usize) {
 }
 
 impl Graph {
-    /// The graph of all arcs that join something.
-    pub(crate) fn of(
+    /// The graph of all arcs that have links.
+    pub(crate) fn new(
         alloc: Global,
         nodes: usize,
         links: Vec<Option<Link>>,
     ) -> Result<Graph, Memory> {
         let mut stops = degrees_of(alloc, nodes, &links)?;
         let count = sum_before(&mut stops);
-        let mut ends = repeated(alloc, 0usize, count)?;
+        let mut ends = repeat(alloc, 0usize, count)?;
         for (arc, link) in links.iter().enumerate() {
             if let Some(link) = link {
                 put(&mut ends, &mut stops, link.from, arc);
@@ -79,18 +79,18 @@ impl Graph {
         self.links.len()
     }
 
-    /// How many ends of arcs there are, and a node more.
+    /// The number of ends of arcs, and one.
     pub(crate) fn size(&self) -> usize {
         self.ends.len().saturating_add(1)
     }
 
-    /// What an arc joins.
+    /// The link of an arc.
     pub(crate) fn link(&self, arc: usize) -> Option<Link> {
         self.links.get(arc).copied().unwrap_or(None)
     }
 
     /// The arcs at a node.
-    pub(crate) fn at(&self, node: usize) -> &[usize] {
+    pub(crate) fn arcs_at(&self, node: usize) -> &[usize] {
         let from = match node.checked_sub(1) {
             Some(before) => self.stops.get(before).copied().unwrap_or(0),
             None => 0,

@@ -1,9 +1,9 @@
-//! Lists that are filled, and grow.
+//! Growing vectors.
 
 use pesp_base::Memory;
 use std::alloc::Global;
 
-/// Adds one more after the others.
+/// Appends an item.
 pub(crate) fn add<T: Drop>(list: &mut Vec<T>, item: T) -> Result<(), Memory> {
     match list.push(item) {
         Ok(()) => Ok(()),
@@ -11,8 +11,8 @@ pub(crate) fn add<T: Drop>(list: &mut Vec<T>, item: T) -> Result<(), Memory> {
     }
 }
 
-/// The same item so many times.
-pub(crate) fn repeated<T: Copy + Drop>(
+/// A list of `count` copies of an item.
+pub(crate) fn repeat<T: Copy + Drop>(
     alloc: Global,
     item: T,
     count: usize,
@@ -24,7 +24,7 @@ pub(crate) fn repeated<T: Copy + Drop>(
     Ok(items)
 }
 
-/// The same list once more.
+/// A copy of a list.
 pub(crate) fn copy_of<T: Copy + Drop>(list: &Vec<T>) -> Result<Vec<T>, Memory> {
     match list.clone() {
         Ok(copy) => Ok(copy),

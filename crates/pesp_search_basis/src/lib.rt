@@ -1,4 +1,4 @@
-//! Narrow cycles of a network, and narrow ways through it.
+//! Narrow cycles of a network, and narrow paths through it.
 #![tactic(auto)]
 
 mod candidates;

@@ -1,31 +1,33 @@
-//! Links.
+//! Links: arcs as edges of a weighted graph.
 
 use crate::growth::add;
 use pesp_base::{Memory, Period};
 use pesp_search_graph::Arc;
 use std::alloc::Global;
 
-/// How much longer a way gets by a unit of width, where a step makes it longer by one.
+/// The length of a unit of width; a step has length 1. So width decides, and the number of steps breaks ties.
 const LENGTH_OF_WIDTH: u64 = 1000;
 
-/// How much longer a way gets by an idle arc: more than by all others together.
+/// The extra length of an idle arc, more than that of all other arcs of a path together.
 const LENGTH_OF_IDLE: u64 = 1 << 40;
 
-/// What an arc joins, and how much longer a way gets by it.
+/// The two nodes that an arc joins, and the arc's length.
 #[derive(Clone, Copy)]
 pub(crate) struct Link {
-    // Two nodes of the network, and a length above 0.
+    // A node of the network.
     pub(crate) from: usize,
+    // Another node of the network.
     pub(crate) to: usize,
+    // Above 0.
     pub(crate) length: u64,
 }
 
-/// What is done with idle arcs.
+/// What to do with idle arcs.
 #[derive(Clone, Copy)]
 pub(crate) enum Idle {
-    /// They join nothing.
+    /// They get no link.
     LeftOut,
-    /// They are longer than all others.
+    /// They get links that are longer than all others.
     Last,
 }
 
@@ -35,8 +37,8 @@ fn is_idle(arc: &Arc, period: Period) -> bool {
 }
 
 impl Link {
-    /// What an arc joins: none for a loop, and for an arc that leads out of the network.
-    fn of(arc: &Arc, period: Period, nodes: usize) -> Option<Link> {
+    /// The link of an arc; none for a loop, and for an arc to a node outside the network.
+    fn new(arc: &Arc, period: Period, nodes: usize) -> Option<Link> {
         if arc.from == arc.to || arc.from >= nodes || arc.to >= nodes {
             return None;
         }
@@ -47,7 +49,7 @@ impl Link {
         })
     }
 
-    /// What an idle arc joins.
+    /// The link of an idle arc.
     fn if_idle(self, idle: Idle) -> Option<Link> {
         match idle {
             Idle::LeftOut => None,
@@ -59,7 +61,7 @@ impl Link {
         }
     }
 
-    /// The end that is not this node.
+    /// The other end of the link.
     pub(crate) fn other(self, node: usize) -> usize {
         if node == self.from {
             self.to
@@ -69,7 +71,7 @@ impl Link {
     }
 }
 
-/// For each arc what it joins.
+/// The link of each arc.
 pub(crate) fn links_of(
     alloc: Global,
     period: Period,
@@ -79,7 +81,7 @@ pub(crate) fn links_of(
 ) -> Result<Vec<Option<Link>>, Memory> {
     let mut links = Vec::new(alloc);
     for arc in arcs {
-        let link = match Link::of(arc, period, nodes) {
+        let link = match Link::new(arc, period, nodes) {
             Some(link) if is_idle(arc, period) => link.if_idle(idle),
             other => other,
         };

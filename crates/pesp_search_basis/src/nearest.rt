@@ -1,4 +1,4 @@
-//! The way to the nearest of some nodes.
+//! Shortest paths to the nearest of some nodes.
 
 use crate::graph::Graph;
 use crate::link::{Idle, links_of};
@@ -8,10 +8,10 @@ use pesp_base::{Memory, Period};
 use pesp_search_graph::{Arc, Step};
 use std::alloc::Global;
 
-/// A way of least width from a node to the nearest one that is wanted; none where there is none.
+/// A path of least width from a node to the nearest wanted one; none if none is reachable.
 ///
-/// Idle arcs are gone only where there is no other way. The first step begins at the node, and each
-/// other one where the one before it ends. A node that is wanted itself has a way without steps.
+/// Idle arcs are used only if there is no other path. The first step starts at the node, and each other step
+/// where the one before it ends. A wanted node has an empty path.
 pub fn way(
     alloc: Global,
     period: Period,
@@ -21,7 +21,7 @@ pub fn way(
     wanted: &[bool],
 ) -> Result<Option<Vec<Step>>, Memory> {
     let links = links_of(alloc, period, nodes, arcs, Idle::Last)?;
-    let graph = Graph::of(alloc, nodes, links)?;
+    let graph = Graph::new(alloc, nodes, links)?;
     let mut ways = Ways::none(alloc, nodes)?;
     let Some(nearest) = ways.reach(alloc, &graph, from, wanted)? else {
         return Ok(None);

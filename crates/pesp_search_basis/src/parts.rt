@@ -1,19 +1,19 @@
-//! Parts.
+//! Disjoint sets of nodes.
 
 use crate::growth::add;
 use pesp_base::Memory;
 use std::alloc::Global;
 
-/// Sets of nodes that are joined.
+/// Disjoint sets of nodes (union-find).
 #[derive(Drop)]
 pub(crate) struct Parts {
-    // For each node another one of its part, or itself where it stands for the part.
+    // For each node another node of its set, nearer to the representative, which has itself.
     next: Vec<usize>,
 }
 
 impl Parts {
-    /// Each node is a part of its own.
-    pub(crate) fn of(alloc: Global, nodes: usize) -> Result<Parts, Memory> {
+    /// Puts each node into a set of its own.
+    pub(crate) fn new(alloc: Global, nodes: usize) -> Result<Parts, Memory> {
         let mut next = Vec::new(alloc);
         for node in 0..nodes {
             add(&mut next, node)?;
@@ -31,7 +31,7 @@ impl Parts {
         }
     }
 
-    /// The node that stands for the part of a node. Ways to it get shorter.
+    /// The representative of a node's set. The call shortens the paths to it.
     fn find(&mut self, node: usize) -> usize {
         let mut node = node;
         for _step in 0..self.next.len() {
@@ -46,7 +46,7 @@ impl Parts {
         node
     }
 
-    /// Joins two parts, and tells whether they were two.
+    /// Joins two sets, and returns whether they were different.
     pub(crate) fn join(&mut self, from: usize, to: usize) -> bool {
         let from = self.find(from);
         let to = self.find(to);

@@ -1,14 +1,14 @@
-//! Queues.
+//! Priority queues of nodes.
 
 use pesp_base::Memory;
 use std::alloc::Global;
 use std::cmp::Reverse;
 use std::collections::BinaryHeap;
 
-/// Nodes to go on from.
+/// The open nodes of a shortest-path search.
 #[derive(Drop)]
 pub(crate) struct Queue {
-    // Each with the length of a way to it.
+    // Each node with the length of a path to it; a node may occur several times.
     nodes: BinaryHeap<Reverse<(u64, usize)>>,
 }
 
@@ -26,7 +26,7 @@ impl Queue {
         }
     }
 
-    /// Takes the nearest node out, with the length of the way to it.
+    /// Removes the nearest node, and returns it with the length of its path.
     pub(crate) fn take(&mut self) -> Option<(u64, usize)> {
         let Reverse(nearest) = self.nodes.pop()?;
         Some(nearest)

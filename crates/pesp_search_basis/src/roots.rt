@@ -1,25 +1,25 @@
-//! Roots.
+//! Roots: nodes that together meet every cycle.
 
 use crate::graph::Graph;
-use crate::growth::{add, repeated};
+use crate::growth::{add, repeat};
 use pesp_base::Memory;
 use std::alloc::Global;
 
-/// What is left of a graph where nodes were taken out.
+/// A graph from which nodes are removed.
 #[derive(Drop)]
 struct Rest {
-    // For each node how many arcs it has left; none where it was taken out.
+    // For each node the number of its remaining arcs; none if the node was removed.
     degrees: Vec<Option<usize>>,
-    // Nodes to be taken out, each at most twice.
+    // Nodes to remove, each at most twice.
     waiting: Vec<usize>,
 }
 
 impl Rest {
-    /// Nothing was taken out.
-    fn of(alloc: Global, graph: &Graph) -> Result<Rest, Memory> {
+    /// The whole graph.
+    fn new(alloc: Global, graph: &Graph) -> Result<Rest, Memory> {
         let mut degrees = Vec::new(alloc);
         for node in 0..graph.nodes() {
-            add(&mut degrees, Some(graph.at(node).len()))?;
+            add(&mut degrees, Some(graph.arcs_at(node).len()))?;
         }
         Ok(Rest {
             degrees,
@@ -27,7 +27,7 @@ impl Rest {
         })
     }
 
-    /// How many arcs a node has left.
+    /// The number of a node's remaining arcs.
     fn degree(&self, node: usize) -> Option<usize> {
         self.degrees.get(node).copied().unwrap_or(None)
     }
@@ -38,7 +38,7 @@ impl Rest {
         }
     }
 
-    /// Takes one arc from a node; the node is to be taken out where one is left.
+    /// Removes one arc at a node. The node is to be removed too if one arc remains.
     fn lessen(&mut self, node: usize) -> Result<(), Memory> {
         if let Some(degree) = self.degree(node) {
             self.set(node, Some(degree.saturating_sub(1)));
@@ -49,7 +49,7 @@ impl Rest {
         Ok(())
     }
 
-    /// Takes out a node, and then all those that no cycle goes through.
+    /// Removes a node, and then all nodes that are on no cycle any more.
     fn take(&mut self, graph: &Graph, node: usize) -> Result<(), Memory> {
         add(&mut self.waiting, node)?;
         for _taken in 0..graph.size() {
@@ -58,7 +58,7 @@ impl Rest {
             };
             if self.degree(node).is_some() {
                 self.set(node, None);
-                for arc in graph.at(node) {
+                for arc in graph.arcs_at(node) {
                     if let Some(link) = graph.link(*arc) {
                         self.lessen(link.other(node))?;
                     }
@@ -68,7 +68,7 @@ impl Rest {
         Ok(())
     }
 
-    /// Takes out all nodes that no cycle goes through.
+    /// Removes all nodes that are on no cycle.
     fn take_ends(&mut self, graph: &Graph) -> Result<(), Memory> {
         for node in 0..graph.nodes() {
             if self.degree(node).is_some_and(|degree| degree < 2) {
@@ -78,7 +78,7 @@ impl Rest {
         Ok(())
     }
 
-    /// The first node that has the most arcs left.
+    /// The first node with the most remaining arcs.
     fn fullest(&self) -> Option<usize> {
         let mut fullest = None;
         let mut most = 0;
@@ -94,9 +94,9 @@ impl Rest {
     }
 }
 
-/// Nodes one of which each cycle goes through.
+/// Nodes that together meet every cycle (a feedback vertex set), chosen greedily.
 pub(crate) fn roots_of(alloc: Global, graph: &Graph) -> Result<Vec<usize>, Memory> {
-    let mut rest = Rest::of(alloc, graph)?;
+    let mut rest = Rest::new(alloc, graph)?;
     rest.take_ends(graph)?;
     let mut roots = Vec::new(alloc);
     for _root in 0..graph.nodes() {

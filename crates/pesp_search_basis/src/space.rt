@@ -1,23 +1,23 @@
-//! Spaces.
+//! The cycle space modulo 2.
 
-use crate::growth::{add, copy_of, repeated};
+use crate::growth::{add, copy_of, repeat};
 use pesp_base::Memory;
 use pesp_search_graph::Step;
 use std::alloc::Global;
 
-/// Sums of cycles over two. Each arc outside of a spanning forest is a column, and a cycle is known
-/// by those that it has.
+/// A reduced row echelon form of cycles modulo 2. Each arc outside a spanning forest is a column, so a cycle is
+/// the set of such arcs that it contains.
 #[derive(Drop)]
 pub(crate) struct Space {
-    // For each arc its column, where it has one.
+    // For each arc its column, if it has one.
     columns: Vec<Option<usize>>,
-    // For each column a sum that has it, and of the columns with sums no other one; or nothing.
+    // For each column a sum that contains it and no other column that has a sum; empty if there is none.
     rows: Vec<Vec<u64>>,
-    // What is looked at; as long as each row.
+    // The row under test, as long as each other row.
     sum: Vec<u64>,
 }
 
-/// Whether a row has a column.
+/// Whether a row contains a column.
 fn has(row: &[u64], column: usize) -> bool {
     let word = row.get(column / 64).copied().unwrap_or(0);
     word & bit(column) != 0
@@ -54,9 +54,9 @@ fn add_row(row: &mut [u64], other: &[u64]) {
 }
 
 impl Space {
-    /// No cycle is there yet.
-    pub(crate) fn of(alloc: Global, arcs: usize, outside: &[usize]) -> Result<Space, Memory> {
-        let mut columns = repeated(alloc, None, arcs)?;
+    /// A space without cycles.
+    pub(crate) fn new(alloc: Global, arcs: usize, outside: &[usize]) -> Result<Space, Memory> {
+        let mut columns = repeat(alloc, None, arcs)?;
         let mut rows = Vec::new(alloc);
         for (column, arc) in outside.iter().enumerate() {
             if let Some(place) = columns.get_mut(*arc) {
@@ -67,13 +67,13 @@ impl Space {
         Ok(Space {
             columns,
             rows,
-            sum: repeated(alloc, 0u64, outside.len().div_ceil(64))?,
+            sum: repeat(alloc, 0u64, outside.len().div_ceil(64))?,
         })
     }
 
-    /// Adds a cycle if it is no sum of others, and tells whether it is none.
+    /// Adds a cycle unless it is a sum of others, and returns whether it was added.
     ///
-    /// The work grows by the numbers that are added.
+    /// The work grows by the numbers visited.
     pub(crate) fn adds(&mut self, steps: &[Step], work: &mut u64) -> Result<bool, Memory> {
         let mut added = steps.len();
         self.sum.fill(0);
@@ -94,7 +94,7 @@ impl Space {
         Ok(kept.is_some())
     }
 
-    /// Keeps the sum as the row of a column, which no other row has then.
+    /// Keeps the sum as the row of a column, and eliminates the column from all other rows.
     fn keep(&mut self, column: usize) -> Result<(), Memory> {
         for row in self.rows.iter_mut() {
             if has(row.as_slice(), column) {

@@ -1,4 +1,4 @@
-//! The steps of ways.
+//! The steps of paths.
 
 use crate::graph::Graph;
 use crate::growth::add;
@@ -6,7 +6,7 @@ use crate::ways::Ways;
 use pesp_base::Memory;
 use pesp_search_graph::Step;
 
-/// Turns a walk round.
+/// Reverses a walk.
 pub(crate) fn turn_round(steps: &mut [Step]) {
     steps.reverse();
     for step in steps.iter_mut() {
@@ -15,7 +15,7 @@ pub(crate) fn turn_round(steps: &mut [Step]) {
 }
 
 impl Ways {
-    /// The step back from the end of the way to a node, and where it leads.
+    /// The last step of the path to a node, reversed, and the node before.
     fn step_back(&self, graph: &Graph, node: usize) -> Option<(Step, usize)> {
         let arc = self.last(node)?;
         let link = graph.link(arc)?;
@@ -26,7 +26,7 @@ impl Ways {
         Some((step, link.other(node)))
     }
 
-    /// Where the ways to two nodes part, and how many steps both have from there on.
+    /// The node where the paths to two nodes diverge, and the number of steps of both after it.
     pub(crate) fn fork(&self, graph: &Graph, from: usize, to: usize) -> Option<(usize, usize)> {
         let (mut near, mut far) = (from, to);
         for steps in 0..graph.size() {
@@ -41,7 +41,7 @@ impl Ways {
         None
     }
 
-    /// Adds the steps from a node back along its way, until another node.
+    /// Appends the steps from a node back along its path, up to another node.
     pub(crate) fn add_back(
         &self,
         graph: &Graph,
@@ -63,9 +63,9 @@ impl Ways {
         Ok(())
     }
 
-    /// Writes the cycle of an arc and the ways to its ends, from where these part.
+    /// Writes the cycle of an arc and the paths to its ends, from where these diverge.
     ///
-    /// There is none, and no step, where the ways begin apart.
+    /// Writes no step if the paths have no common node.
     pub(crate) fn write_cycle(
         &self,
         graph: &Graph,

@@ -1,36 +1,36 @@
-//! Ways.
+//! Shortest-path trees.
 
 use crate::graph::Graph;
-use crate::growth::repeated;
+use crate::growth::repeat;
 use crate::queue::Queue;
 use pesp_base::Memory;
 use std::alloc::Global;
 
-/// The length of a way where there is none.
+/// The length of the path to an unreached node.
 const FAR: u64 = u64::MAX;
 
-/// No arc.
+/// The last arc of a path without arcs.
 const NONE: u32 = u32::MAX;
 
-/// Least ways to nodes; but for its last arc each is that to the node before.
+/// Shortest paths from one node: each is the path to the node before it and one more arc.
 #[derive(Drop)]
 pub(crate) struct Ways {
-    // For each node how long its way is, or FAR.
+    // For each node the length of its path, or `FAR`.
     lengths: Vec<u64>,
-    // For each node the last arc of its way; NONE where a way begins, and where there is none.
+    // For each node the last arc of its path; `NONE` for a start and for an unreached node.
     last: Vec<u32>,
 }
 
 impl Ways {
-    /// No node has a way.
+    /// No node is reached.
     pub(crate) fn none(alloc: Global, nodes: usize) -> Result<Ways, Memory> {
         Ok(Ways {
-            lengths: repeated(alloc, FAR, nodes)?,
-            last: repeated(alloc, NONE, nodes)?,
+            lengths: repeat(alloc, FAR, nodes)?,
+            last: repeat(alloc, NONE, nodes)?,
         })
     }
 
-    /// How long the way to a node is.
+    /// The length of the path to a node.
     pub(crate) fn length(&self, node: usize) -> u64 {
         self.lengths.get(node).copied().unwrap_or(FAR)
     }
@@ -39,7 +39,7 @@ impl Ways {
         self.length(node) < FAR
     }
 
-    /// The last arc of the way to a node.
+    /// The last arc of the path to a node.
     pub(crate) fn last(&self, node: usize) -> Option<usize> {
         match self.last.get(node) {
             Some(arc) if *arc < NONE => Some(*arc as usize),
@@ -56,7 +56,7 @@ impl Ways {
         }
     }
 
-    /// Finds the least ways from a node, until one that is wanted is reached: the nearest is told.
+    /// Finds shortest paths from a node until a wanted one is reached, and returns that one, the nearest.
     pub(crate) fn reach(
         &mut self,
         alloc: Global,
@@ -71,7 +71,7 @@ impl Ways {
             let Some((length, node)) = queue.take() else {
                 return Ok(None);
             };
-            // Else a shorter way to the node was gone before.
+            // Otherwise a shorter path to the node was found earlier.
             if length == self.length(node) {
                 if wanted.get(node).copied().unwrap_or(false) {
                     return Ok(Some(node));
@@ -82,10 +82,10 @@ impl Ways {
         Ok(None)
     }
 
-    /// Goes on from a node by each arc there.
+    /// Extends the path to a node by each arc there.
     fn go_on(&mut self, graph: &Graph, node: usize, queue: &mut Queue) -> Result<(), Memory> {
         let length = self.length(node);
-        for arc in graph.at(node) {
+        for arc in graph.arcs_at(node) {
             if let Some(link) = graph.link(*arc) {
                 let other = link.other(node);
                 let longer = length.saturating_add(link.length);

@@ -1,4 +1,4 @@
-//! Whether boxes admit a map, and what it costs.
+//! Whether boxes contain a map, and its cost.
 
 ghost use Rattle.std.specs.Prelude.{◌≡◌, ℕ, List, ◌+◌, ◌<◌, ◌≤◌, ◌++◌, All, IfNone, IfOk, IfSome, MatchBool, length, pos, slice_index};
 ghost use Rattle.pesp_search_network.specs.Arcs.{IsMet};
@@ -33,7 +33,7 @@ fn slacks(alloc: Global, network: &Network, map: &[u16]) -> Result<Vec<u16>, Mem
     Ok(slacks)
 }
 
-/// The slacks of the arcs at a map, and then its residues.
+/// The variables of a map: the slacks of the arcs, then the residues.
 fn numbers(alloc: Global, network: &Network, map: &[u16]) -> Result<Vec<u16>, Memory>
     requires { IsMet network.now map.now }
     ensures { IfOk result (λ numbers. numbers.items ≡ numbers_of network.now map.now) }
@@ -45,7 +45,7 @@ fn numbers(alloc: Global, network: &Network, map: &[u16]) -> Result<Vec<u16>, Me
     Ok(numbers)
 }
 
-/// Whether each range has its number.
+/// Whether each variable is in its range.
 fn are_in(ranges: &[Range], numbers: &[u16]) -> bool
     ensures { MatchBool result (AreIn ranges.now numbers.now) (AreIn ranges.now numbers.now → ⊥) }
 {
@@ -60,7 +60,7 @@ fn are_in(ranges: &[Range], numbers: &[u16]) -> bool
     true
 }
 
-/// The time that a step takes at these numbers, if it is of one of the arcs.
+/// The time of a step at these values, if its arc exists.
 fn step_time(arcs: &[Arc], numbers: &[u16], step: Step) -> Option<i64>
     ensures { IfSome result (λ time. time ≡ time_of arcs.now numbers.now step) }
 {
@@ -72,7 +72,7 @@ fn step_time(arcs: &[Arc], numbers: &[u16], step: Step) -> Option<i64>
     if step.along { Some(time) } else { Some(-time) }
 }
 
-/// The time that the steps take together at these numbers, if it fits.
+/// The time of the steps at these values, if it fits.
 fn time(arcs: &[Arc], numbers: &[u16], steps: &[Step]) -> Option<i64>
     ensures { IfSome result (λ time. time ≡ times arcs.now numbers.now steps.now) }
 {
@@ -83,7 +83,7 @@ fn time(arcs: &[Arc], numbers: &[u16], steps: &[Step]) -> Option<i64>
     Some(sum)
 }
 
-/// The residue of an event at these numbers.
+/// The residue of an event at these values.
 fn residue_at(arcs: &[Arc], numbers: &[u16], event: usize) -> Option<i64>
     ensures { IfSome result (λ time. time ≡ residue arcs.now numbers.now event) }
 {
@@ -94,7 +94,7 @@ fn residue_at(arcs: &[Arc], numbers: &[u16], event: usize) -> Option<i64>
     Some(i64::from(numbers[index]))
 }
 
-/// The time that a walk takes at these numbers, with the residue at its first event and less that at its last.
+/// The round of a walk at these values: its time, plus the residue at its first event, less that at its last.
 fn round_at(arcs: &[Arc], numbers: &[u16], walk: &Walk) -> Option<i64>
     ensures { IfSome result (λ time. time ≡ round arcs.now numbers.now walk.now) }
 {
@@ -106,7 +106,7 @@ fn round_at(arcs: &[Arc], numbers: &[u16], walk: &Walk) -> Option<i64>
     Some(time)
 }
 
-/// Whether each range has the time of its walk, if all times fit.
+/// Whether each range contains the round of its walk, if all rounds fit.
 fn rounds_are_in(ranges: &[Range], arcs: &[Arc], numbers: &[u16], walks: &[Walk]) -> Option<bool>
     requires { length ranges.now ≡ length walks.now }
     ensures { IfSome result (λ inside. MatchBool inside
@@ -122,8 +122,8 @@ fn rounds_are_in(ranges: &[Range], arcs: &[Arc], numbers: &[u16], walks: &[Walk]
     Some(true)
 }
 
-/// Whether the boxes admit a map that meets everything. Where a time does not fit, it is told that memory ran out; `root`
-/// found before that each time fits.
+/// Whether the boxes contain a map that meets everything. A time that does not fit counts as out of memory;
+/// `root` has excluded that before.
 fn is_inside(alloc: Global, cycles: &Cycles, boxes: &Boxes, map: &[u16]) -> Result<bool, Memory>
     requires boxes { AreBoxes cycles.now boxes.now }
     requires met { IsMet cycles.now.network map.now }
@@ -146,7 +146,7 @@ fn is_inside(alloc: Global, cycles: &Cycles, boxes: &Boxes, map: &[u16]) -> Resu
     }
 }
 
-/// What a map costs, if it meets everything and the boxes admit it.
+/// The cost of a map, if it meets everything and is in the boxes.
 pub(crate) fn admitted_cost(
     alloc: Global,
     cycles: &Cycles,

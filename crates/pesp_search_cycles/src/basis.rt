@@ -1,4 +1,4 @@
-//! Which networks are searched by cycles, and by which cycles.
+//! The networks that are searched by cycles, and the cycles used.
 
 ghost use Rattle.pesp_search_least.specs.Spending.{OnlySpends};
 
@@ -10,16 +10,17 @@ use pesp_search_least::Budget;
 use pesp_search_network::Network;
 use std::alloc::Global;
 
-/// How many cycles a network may have.
+/// The most cycles of a network. Above these three limits a pivot takes too long, and only a local search finds
+/// timetables (docs/DECISIONS.md, "Search"). No trial of the numbers is recorded.
 const MOST_CYCLES: usize = 1_000;
 
-/// how many events,
+/// The most events.
 const MOST_EVENTS: usize = 2_000;
 
-/// and how many entries a tableau, which takes 16 MB then.
+/// The most entries of a tableau, which takes 16 MB then.
 const MOST_ENTRIES: usize = 2_097_152;
 
-/// Whether a search by cycles is of use: whether there are few enough.
+/// Whether the network is small enough for a search by cycles.
 pub fn is_of_use(alloc: Global, network: &Network) -> Result<bool, Memory> {
     if network.events() > MOST_EVENTS {
         return Ok(false);
@@ -31,7 +32,7 @@ pub fn is_of_use(alloc: Global, network: &Network) -> Result<bool, Memory> {
     Ok(cycles <= MOST_CYCLES && cycles.saturating_mul(numbers) <= MOST_ENTRIES)
 }
 
-/// How many units it takes to find narrow cycles, or none where there are too many.
+/// The units needed to find narrow cycles; none if there are too many cycles.
 pub(crate) fn units_of_narrow(
     alloc: Global,
     network: &Network,
@@ -41,7 +42,7 @@ pub(crate) fn units_of_narrow(
     graph.units_of_narrow(alloc, network.period())
 }
 
-/// Narrow cycles where finding them takes at most a quarter of the budget, and else those of a tree.
+/// Narrow cycles if finding them takes less than a quarter of the budget, and else those of a spanning tree.
 pub(crate) fn basis_within(
     alloc: Global,
     network: &Network,
@@ -56,7 +57,7 @@ pub(crate) fn basis_within(
     }
 }
 
-/// Walks that make up all others, and what it took to find them is spent.
+/// The walks of a cycle basis. The work of finding them is spent.
 pub(crate) fn walks_of(
     alloc: Global,
     network: &Network,

@@ -1,4 +1,4 @@
-//! Ranges of a network's numbers, and of the times of walks.
+//! Bounds of a network's variables, and of the rounds of walks.
 
 ghost use Rattle.std.specs.Prelude.{◌≤◌, IfOk, length};
 ghost use Rattle.pesp_search_cycles.specs.Ranges.{AreNarrowed};
@@ -7,23 +7,23 @@ ghost use Rattle.pesp_search_cycles.specs.Splits.{AreSame, HasPlace, IsNarrowed,
 use crate::Range;
 use pesp_base::Memory;
 
-/// In which ranges the numbers of a map are.
+/// Bounds of all variables of a map.
 #[derive(Drop)]
 pub(crate) struct Boxes {
-    // The slack of each arc, and then the residue of each event.
+    // The range of each arc's slack, then that of each event's residue.
     pub(crate) numbers: Vec<Range>,
-    // The time of each walk.
+    // The range of each walk's round.
     pub(crate) rounds: Vec<Range>,
 }
 
-/// One of the ranges.
+/// The place of one range.
 #[derive(Clone, Copy)]
 pub(crate) enum Place {
     Number(usize),
     Round(usize),
 }
 
-/// Narrows the ranges in front to those of others.
+/// Narrows the leading ranges to those of others.
 fn narrow(ranges: &mut [Range], others: &[Range])
     requires { length others.now ≤ length ranges.old }
     ensures { AreNarrowed ranges.old others.now ranges.new }
@@ -34,7 +34,7 @@ fn narrow(ranges: &mut [Range], others: &[Range])
 }
 
 impl Boxes {
-    /// Narrows the ranges in front to those of other boxes.
+    /// Narrows the leading ranges to those of other boxes.
     pub(crate) fn narrow(&mut self, others: &Boxes)
         requires numbers { length others.now.numbers.items ≤ length self.old.numbers.items }
         requires rounds { length others.now.rounds.items ≤ length self.old.rounds.items }
@@ -44,7 +44,7 @@ impl Boxes {
         narrow(&mut self.rounds, &others.rounds);
     }
 
-    /// The same ranges once more.
+    /// A copy of the boxes.
     pub(crate) fn copy(&self) -> Result<Boxes, Memory>
         ensures { IfOk result (AreSame self.now) }
     {
@@ -57,7 +57,7 @@ impl Boxes {
         Ok(Boxes { numbers, rounds })
     }
 
-    /// Puts a range in place of another.
+    /// Replaces a range.
     pub(crate) fn put(&mut self, place: Place, range: Range)
         requires { HasPlace self.old place }
         ensures { IsPut self.old place range self.new }
@@ -68,7 +68,7 @@ impl Boxes {
         }
     }
 
-    /// The same ranges with this one in place of another.
+    /// A copy of the boxes with one range replaced.
     pub(crate) fn with(&self, place: Place, range: Range) -> Result<Boxes, Memory>
         requires { HasPlace self.now place }
         ensures { IfOk result (IsPut self.now place range) }

@@ -1,4 +1,4 @@
-//! Which range of boxes is cut, and where.
+//! The range of boxes to split, and where.
 
 ghost use Rattle.std.specs.Prelude.{◌≡◌, ℕ, ◌<◌, ◌≤◌, ◌≤ℤ◌, IfNone, IfSome, drop, length, slice_index_or};
 ghost use Rattle.pesp_search_cycles.specs.Maps.{AreBoxes, Net};
@@ -9,15 +9,16 @@ use crate::boxes::{Boxes, Place};
 use crate::range::Halves;
 use crate::{Cycles, Range};
 
-/// A range by index, with its halves.
+/// A range by index, and its two halves.
 #[derive(Clone, Copy)]
 pub(crate) struct Cut {
-    // The halves are those of the range there.
+    // The index of the range.
     pub(crate) index: usize,
+    // The halves of that range.
     pub(crate) halves: Halves,
 }
 
-/// The widest of the ranges that have several whole numbers of steps.
+/// The widest range with several multiples of the step.
 pub(crate) fn widest(ranges: &[Range], step: u16) -> Option<Cut>
     requires { 0 < step }
     ensures { IfSome result (λ cut. (cut.index < length ranges.now)
@@ -38,7 +39,7 @@ pub(crate) fn widest(ranges: &[Range], step: u16) -> Option<Cut>
     widest
 }
 
-/// The first of the ranges that have several numbers.
+/// The first range with several numbers.
 pub(crate) fn first_wide(ranges: &[Range]) -> Option<Cut>
     ensures some { IfSome result (λ cut. (cut.index < length ranges.now)
         × IsHalved 1 (slice_index_or ranges.now cut.index no_range) cut.halves) }
@@ -52,16 +53,17 @@ pub(crate) fn first_wide(ranges: &[Range]) -> Option<Cut>
     None
 }
 
-/// A range by place, with its halves.
+/// A range by place, and its two halves.
 #[derive(Clone, Copy)]
 pub(crate) struct Choice {
-    // The halves are those of the range there.
+    // The place of the range.
     pub(crate) place: Place,
+    // The halves of that range.
     pub(crate) halves: Halves,
 }
 
 impl Choice {
-    /// The same range with the other half first.
+    /// The same split with the other half first.
     pub(crate) fn swapped(self) -> Choice
         ensures place { (B : Boxes) → HasPlace B self.place → HasPlace B result.place }
         ensures cut { (N : Net) (B : Boxes) → IsCut N B self.place self.halves
@@ -74,7 +76,7 @@ impl Choice {
     }
 }
 
-/// The first of the residues that has several numbers.
+/// The first range of a residue with several numbers.
 fn first_wide_residue(boxes: &Boxes, arcs: usize) -> Option<Choice>
     requires { arcs ≤ length boxes.now.numbers.items }
     ensures place { IfSome result (λ choice. HasPlace boxes.now choice.place) }
@@ -89,8 +91,8 @@ fn first_wide_residue(boxes: &Boxes, arcs: usize) -> Option<Choice>
     })
 }
 
-/// Which range is cut where nothing else is known: a walk's time, then a number. None is left where each event has one
-/// residue at most.
+/// The split to make if nothing suggests one: a walk's round, then a variable. There is none once each event
+/// has at most one residue.
 pub(crate) fn last_cut(cycles: &Cycles, boxes: &Boxes) -> Option<Choice>
     requires { AreBoxes cycles.now boxes.now }
     ensures place { IfSome result (λ choice. HasPlace boxes.now choice.place) }
@@ -107,7 +109,7 @@ pub(crate) fn last_cut(cycles: &Cycles, boxes: &Boxes) -> Option<Choice>
     first_wide_residue(boxes, cycles.network().arcs().len())
 }
 
-/// The halves of a walk's time at a number of periods, if both are less wide.
+/// Splits a walk's round at a multiple of the period, if both halves are narrower.
 pub(crate) fn round_cut(cycles: &Cycles, boxes: &Boxes, index: usize, at: i64) -> Option<Choice>
     ensures place { IfSome result (λ choice. HasPlace boxes.now choice.place) }
     ensures cut { IfSome result (λ choice. IsCut cycles.now boxes.now choice.place choice.halves) }
@@ -120,7 +122,7 @@ pub(crate) fn round_cut(cycles: &Cycles, boxes: &Boxes, index: usize, at: i64) -
     })
 }
 
-/// The halves of a number at another one, if both are less wide.
+/// Splits a variable's range, if both halves are narrower.
 pub(crate) fn number_cut(boxes: &Boxes, index: usize, at: i64) -> Option<Choice>
     ensures place { IfSome result (λ choice. HasPlace boxes.now choice.place) }
     ensures cut { (N : Net) → IfSome result (λ choice.

@@ -1,6 +1,6 @@
-//! The search for flip cuts, round by round: those that the least slacks of the first node do not keep.
+//! The search for flip cuts in rounds: cuts that the optimal slacks of the root node violate.
 //!
-//! Nothing is relied upon: each flip makes a cut that all maps keep.
+//! No proof relies on it: each flip gives a valid cut.
 
 ghost use Rattle.pesp_search_least.specs.Spending.{OnlySpends};
 
@@ -20,48 +20,53 @@ use pesp_search_least::Budget;
 use pesp_search_network::Network;
 use std::alloc::Global;
 
-/// How many rounds there are at most.
+/// The most rounds. More find further cuts and take longer. No trial of this number is recorded.
 const ROUNDS: u64 = 40;
 
-/// After so many rounds cuts that are not tight are left out.
+/// After this number of rounds, cuts that are not tight are dropped and a new tableau is made: half of a
+/// round's cuts are not tight in the next (docs/HISTORY.md, "Rounds a period too wide").
 const ROUNDS_OF_TABLEAU: u64 = 4;
 
-/// Fewer walks than this are searched without cuts.
+/// Networks with fewer walks are searched without cuts. No trial of this number is recorded.
 const LEAST_WALKS: usize = 12;
 
-/// How many units all rounds spend at most.
+/// The most units of all rounds together. More find further cuts and take longer. No trial of this number is
+/// recorded.
 const UNITS: u64 = 400_000;
 
-/// How many their first turn has.
+/// The units of the first turn; each later turn has twice as many. Rounds alternate with the search, because in
+/// one piece they made 16 narrow lines take 2.5 s instead of 0.6 (docs/HISTORY.md, "A local search, turns by
+/// bounds, and tied events as one").
 const FIRST_TURN: u64 = 40_000;
 
-/// A search for flip cuts, which can be gone on with.
+/// A search for flip cuts that can be resumed.
 #[derive(Drop)]
 pub(crate) struct Rounds {
-    // Those of the tableau's cuts, in their order.
+    // The flips of the tableau's cuts, in the order of the cuts.
     flips: Vec<Flip>,
     // The tableau of the walks and these cuts; none before the first round.
     proposer: Option<Proposer>,
-    // The walks that are looked at; none before the first round.
+    // The walks that may get cuts; none before the first round.
     candidates: Option<Vec<Walk>>,
-    // What is known by the cuts before; nothing before the first round.
+    // The estimate after the last round; none before the first.
     known: Option<Estimate>,
-    // So many rounds are left,
+    // The number of rounds left.
     rounds: u64,
-    // so many units,
+    // The number of units left for all rounds.
     units: u64,
-    // and so many of its turn,
+    // The number of units left in this turn; 0 if the turn is over.
     turn: u64,
-    // which had so many.
+    // The number of units of the next turn.
     given: u64,
-    // So many rounds in turn gained little.
+    // The number of poor rounds in succession; after three the search ends (docs/HISTORY.md, "A local search,
+    // turns by bounds, and tied events as one").
     poor: u64,
-    // Whether another round is of use.
+    // Whether to make another round.
     goes_on: bool,
 }
 
 impl Rounds {
-    /// A search that was not begun.
+    /// A search before its first round.
     pub(crate) fn new(alloc: Global) -> Rounds {
         Rounds {
             flips: Vec::new(alloc),
@@ -77,7 +82,7 @@ impl Rounds {
         }
     }
 
-    /// Gives it another turn, twice as long, if its last one has ended.
+    /// Starts another turn, twice as long, if the last one is over.
     fn begin_turn(&mut self) {
         if self.turn == 0 {
             self.turn = self.given;
@@ -85,8 +90,8 @@ impl Rounds {
         }
     }
 
-    /// The next turn of the search beside it: none while it has one itself, one as long as the last while it is gone on with,
-    /// and then longer ones.
+    /// The next turn of the search without cuts: an empty one while these rounds have units left in their turn,
+    /// one as long as its last when that turn is over, and longer ones once the rounds have ended.
     pub(crate) fn turn_beside(&self, turn: Turn) -> Turn {
         if !self.goes_on {
             turn.longer()
@@ -97,19 +102,19 @@ impl Rounds {
         }
     }
 
-    /// After so many units; without any it ends.
+    /// Subtracts units. Without units left, the search ends.
     fn spend(&mut self, units: u64) {
         self.turn = self.turn.saturating_sub(units);
         self.units = self.units.saturating_sub(units);
         self.goes_on = self.goes_on && 0 < self.units;
     }
 
-    /// Whether it is to be gone on with.
+    /// Whether the search can be resumed.
     pub(crate) fn is_open(&self) -> bool {
         self.goes_on
     }
 
-    /// Whether the bound by the cuts is near the cost of the best map that is known now.
+    /// Whether the bound with these cuts is near the cost of the best map known now.
     pub(crate) fn are_of_use(&self, aim: Aim) -> bool {
         match self.known {
             Some(known) => known.with_best(aim.best).is_near(0),
@@ -122,7 +127,7 @@ impl Rounds {
         self.flips
     }
 
-    /// The tableau as it was left, or one of the walks and of the cuts that there are.
+    /// The last tableau, or one of the walks and the current cuts.
     fn tableau(&mut self, alloc: Global, site: &Site) -> Result<Proposer, Memory> {
         if let Some(proposer) = self.proposer.take() {
             return Ok(proposer);
@@ -132,7 +137,7 @@ impl Rounds {
         Ok(proposer)
     }
 
-    /// Leaves the flips whose cuts are tight.
+    /// Keeps only the flips whose cuts are tight.
     fn leave_tight(&mut self, alloc: Global, proposer: &Proposer) -> Result<(), Memory> {
         let mut kept = Vec::new(alloc);
         for index in 0..self.flips.len() {
@@ -144,7 +149,7 @@ impl Rounds {
         Ok(())
     }
 
-    /// Flips of which the tableau misses most.
+    /// The flips of the most violated cuts.
     fn missed(
         &self,
         alloc: Global,
@@ -161,7 +166,7 @@ impl Rounds {
         Ok(missed)
     }
 
-    /// Adds flips to those that there are.
+    /// Appends flips.
     fn add(&mut self, flips: Vec<Flip>) -> Result<(), Memory> {
         for flip in flips {
             if self.flips.push(flip).is_err() {
@@ -171,7 +176,7 @@ impl Rounds {
         Ok(())
     }
 
-    /// What is known by the cuts that there are, and whether more are of use.
+    /// Updates the estimate, and returns whether to continue.
     fn judged(&mut self, bound: u64, cost: Option<u64>, aim: Aim) -> bool {
         let known = Estimate::of(bound, cost, aim);
         self.rounds = self.rounds.saturating_sub(1);
@@ -188,7 +193,7 @@ impl Rounds {
         self.poor < 3 && 0 < self.rounds && 0 < self.units
     }
 
-    /// One round: what the cuts make of the bound, and which others are missed.
+    /// Makes one round: solves with the current cuts, and adds violated ones.
     fn round(&mut self, alloc: Global, site: &Site, budget: &mut Budget) -> Result<(), Memory> {
         let mut proposer = self.tableau(alloc, site)?;
         let network = site.cycles.network();
@@ -215,7 +220,7 @@ impl Rounds {
         self.add(missed)
     }
 
-    /// Goes on as far as the budget goes.
+    /// Makes rounds as long as the budget lasts.
     pub(crate) fn advance(
         &mut self,
         alloc: Global,
@@ -240,7 +245,7 @@ impl Rounds {
     }
 }
 
-/// Goes on with rounds for the cuts of a network beside walks, where they are open: how many units they spent.
+/// Resumes the rounds for the cuts of a network with these walks, if they are open. Returns the units spent.
 pub(crate) fn seek_cuts(
     alloc: Global,
     network: &Network,
@@ -276,7 +281,7 @@ pub(crate) fn seek_cuts(
     Ok(units)
 }
 
-/// The flips whose cuts are of use, where they are found at once.
+/// The flips of useful cuts, found in one piece.
 pub(crate) fn flips_of(
     alloc: Global,
     network: &Network,

@@ -1,4 +1,4 @@
-//! Flip cuts of a network beside its walks.
+//! Flip cuts of a network with walks.
 
 ghost use Rattle.std.specs.Prelude.{◌≡◌, ℕ, List, All, IfOk, length};
 ghost use Rattle.pesp_search_network.specs.Arcs.{IsMet};
@@ -13,7 +13,7 @@ use pesp_base::Memory;
 use pesp_search_network::Network;
 use std::alloc::Global;
 
-/// The cuts of flips of a network whose numbers are in these ranges.
+/// The cuts of flips, for variables in these ranges.
 pub(crate) fn cuts_of(
     alloc: Global,
     cycles: &Cycles,
@@ -36,7 +36,7 @@ pub(crate) fn cuts_of(
     Ok(cuts)
 }
 
-/// The cuts of flips, where all maps have these residues.
+/// The cuts of flips, for maps with these residues.
 fn cuts_among<'x>(
     alloc: Global,
     cycles: &'x Cycles<'x>,
@@ -53,7 +53,7 @@ fn cuts_among<'x>(
     cuts_of(alloc, cycles, &boxes.numbers, flips)
 }
 
-/// The cuts of flips of a network beside walks.
+/// The cuts of flips, for a network with walks.
 pub(crate) fn cuts_beside(
     alloc: Global,
     network: &Network,

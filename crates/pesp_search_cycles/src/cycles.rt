@@ -1,4 +1,4 @@
-//! Networks with walks in them.
+//! Networks with walks and cuts.
 
 ghost use Rattle.std.specs.Prelude.{◌≡◌, ◌++◌, All, List, IfOk, IsTrue};
 ghost use Rattle.pesp_search_network.specs.Weights.{AreAlike};
@@ -14,14 +14,14 @@ use pesp_search_network::Network;
 use std::alloc::Global;
 use std::marker::Model;
 
-/// A network, walks along and against its arcs, and cuts.
+/// A network, walks in it, and cuts.
 #[derive(Drop)]
 pub struct Cycles<'a> {
-    // As it was given.
+    // The network, unchanged.
     network: &'a Network,
     // Each leads from its first event to its last.
     walks: Vec<Walk>,
-    // Each is kept by all maps.
+    // Each holds for all maps of the network.
     cuts: &'a [FlipCut],
 }
 
@@ -81,7 +81,7 @@ impl<'a> Cycles<'a> {
         self.walks
     }
 
-    /// The same without cuts.
+    /// The same network and walks without cuts.
     pub(crate) fn without_cuts(
         alloc: Global,
         network: &'a Network,
@@ -92,7 +92,7 @@ impl<'a> Cycles<'a> {
         Cycles::new(alloc, network, copied(alloc, walks)?, &[])
     }
 
-    /// The same with those of more walks that lead from their first event to their last.
+    /// The same with more walks: those that lead from their first event to their last.
     pub(crate) fn with(&self, alloc: Global, more: &[Walk]) -> Result<Cycles<'a>, Memory>
         ensures network { IfOk result (λ cycles. cycles.network ≡ self.now.network) }
         ensures walks { IfOk result (λ cycles. (others : List Path)
@@ -116,7 +116,7 @@ impl<'a> Cycles<'a> {
         })
     }
 
-    /// The same walks and cuts in a network that is the same but for what its arcs weigh.
+    /// The same walks and cuts in a network that differs only in its weights.
     pub(crate) fn over(&self, alloc: Global, network: &'a Network) -> Result<Cycles<'a>, Memory>
         requires same { network.now ≡ record self.now.network { arcs = network.now.arcs } }
         requires alike { AreAlike network.now.arcs self.now.network.arcs }
@@ -132,7 +132,7 @@ impl<'a> Cycles<'a> {
         })
     }
 
-    /// What holds of all of these.
+    /// Facts that hold for all of these.
     pub(crate) fn sound(&self)
         ensures { AreCycles self.now }
     {

@@ -1,4 +1,4 @@
-//! Whether boxes have no map.
+//! Whether boxes contain no map.
 
 ghost use Rattle.std.specs.Prelude.{◌≡◌, ℕ, ℤ, List, ◌<◌, ◌≤◌, false, pos, IsTrue, length, slice_index_or};
 ghost use Rattle.pesp_search_network.specs.Arcs.{IsMet};
@@ -7,7 +7,7 @@ ghost use Rattle.pesp_search_cycles.specs.Ranges.{AllIn, AreIn, IsIn};
 use crate::Range;
 use pesp_search_network::Network;
 
-/// Whether one of the ranges has no number.
+/// Whether one of the ranges is empty.
 pub(crate) fn has_empty(ranges: &[Range]) -> bool
     ensures { IsTrue result → (n : ℕ) (z : ℕ → ℤ) → AllIn ranges.now n z → ⊥ }
 {
@@ -19,7 +19,7 @@ pub(crate) fn has_empty(ranges: &[Range]) -> bool
     false
 }
 
-/// Whether a row has the least residue of the range.
+/// Whether a domain contains the least residue of the range.
 fn has_least(row: &[bool], range: Range) -> bool {
     match usize::try_from(range.low) {
         Ok(low) if range.low <= range.high => row.get(low).copied() == Some(true),
@@ -27,13 +27,13 @@ fn has_least(row: &[bool], range: Range) -> bool {
     }
 }
 
-/// Whether none of a row's residues is in the range.
+/// Whether a domain has no residue in the range.
 fn lacks_all(row: &[bool], range: Range) -> bool
     requires { length row.now ≤ 1440 }
     ensures { IsTrue result → (r : ℕ) → r < length row.now
         → IsTrue (slice_index_or row.now r false) → IsIn range (pos r) → ⊥ }
 {
-    // It most often has the least residue of the range.
+    // Mostly the domain contains the least residue, so this test saves the loop.
     if has_least(row, range) {
         return false;
     }
@@ -47,7 +47,7 @@ fn lacks_all(row: &[bool], range: Range) -> bool
     true
 }
 
-/// Whether the row of some event has no residue in the range of the event.
+/// Whether the domain of some event has no residue in the event's range.
 pub(crate) fn has_lost_event(network: &Network, residues: &[Range]) -> bool
     requires { length residues.now ≡ network.now.events }
     ensures { IsTrue result → (xs : List ℕ) → IsMet network.now xs

@@ -1,4 +1,4 @@
-//! Searches for the first map of least cost of a network that are kept, and can be gone on with.
+//! Searches for the first map of least cost that are kept and can be resumed.
 
 ghost use Rattle.std.specs.Prelude.{◌≡◌, ◌+◌, ◌<◌, ◌^◌, IfOk, IfSome, IsNone};
 ghost use Rattle.pesp_search_least.specs.Order.{EndsUnlessSpent, IsFirstOutcome};
@@ -22,27 +22,27 @@ use pesp_search_network::Network;
 use std::alloc::Global;
 use std::marker::Model;
 
-/// What is known of the cuts by which the least cost was found.
+/// The cuts with which the least cost was found.
 #[derive(Drop)]
 pub(crate) enum CutsKnown {
-    /// It was found without.
+    /// It was found without cuts.
     Nothing,
-    /// Those of these flips.
+    /// The cuts of these flips.
     Flips(Vec<Flip>),
-    /// A part of the network had some: they are sought again.
+    /// A part of the network had cuts: new ones are sought.
     OfAPart,
 }
 
-/// A search for the first map of least cost that stands still.
+/// A stopped search for the first map of least cost.
 #[derive(Drop)]
 pub(crate) struct FirstSearch {
-    // As it was given.
+    // The network that is searched.
     network: Network,
-    // Each is kept by all maps.
+    // Each holds for all maps of the network.
     cuts: Vec<FlipCut>,
     // Each leads from its first event to its last.
     walks: Vec<Walk>,
-    // Of the cycles that these make.
+    // The state of the search, over these walks and cuts.
     settling: Settling,
 }
 
@@ -61,7 +61,9 @@ impl Model for FirstSearch {
 }
 
 impl FirstSearch {
-    /// A search at its beginning, with cuts or without.
+    /// A search that has not started, with cuts or without. It uses cuts only if they found the least cost:
+    /// always using them made four narrow regions take three times as long (docs/HISTORY.md, "What the search
+    /// could do without").
     pub(crate) fn new(
         alloc: Global,
         network: Network,
@@ -102,14 +104,14 @@ impl FirstSearch {
         &self.network
     }
 
-    /// What its maps of least cost cost.
+    /// The least cost of the network.
     pub(crate) fn cost(&self) -> u64
         ensures { result ≡ self.now.cost }
     {
         self.settling.best.cost
     }
 
-    /// Goes on as far as the budget goes: what the search comes to, and where it stops how it can be gone on with.
+    /// Continues as long as the budget lasts. Returns the result, and the state to resume if the search stops.
     pub(crate) fn advance(
         self,
         alloc: Global,

@@ -1,9 +1,11 @@
-//! Flip cuts: what some numbers are together at least, since the time of a walk is a whole number of periods.
+//! Flip cuts: lower bounds on sums of variables, which hold because the round of a walk is a whole number of
+//! periods.
 //!
-//! Of each step of a walk the least and the greatest time are known. Some steps are counted: by how much they are above
-//! their least times, together, is at least 0, and at least what the walk takes above `base`: the least times of these and the
-//! greatest ones of the others. Where `base` and a rest below the period are whole periods, it is at least as often the
-//! rest as the walk takes periods more than these, and one more.
+//! Each step of a walk has a least and a greatest time, and some steps are counted. Let `base` be the least
+//! times of the counted steps plus the greatest times of the others. The excess of the counted steps over their
+//! least times is at least 0, and at least the time of the walk less `base`. Let `base` plus `rest`, which is
+//! below the period, be k periods, and the time of the walk m periods. Then the excess is at least `rest` times
+//! (m - k + 1).
 
 ghost use Rattle.std.specs.Prelude.{◌≡◌, ◌<◌, ℕ, ℤ, List, pos, neg_ℤ, ◌+ℤ◌, ◌*ℤ◌, IfSome, slice_index};
 ghost use Rattle.pesp_search_network.specs.Arcs.{IsMet};
@@ -19,37 +21,37 @@ use pesp_base::Memory;
 use pesp_search_graph::{Arc, Step};
 use std::alloc::Global;
 
-/// So often a number by index.
+/// A multiple of a variable.
 #[derive(Clone, Copy)]
 pub(crate) struct Part {
-    // A slack's or a residue's.
+    // The index of the variable, a slack or a residue.
     pub(crate) number: usize,
-    // Any.
+    // Its coefficient, any number.
     pub(crate) rate: i64,
 }
 
-/// Numbers, each so often, that are together at least so much in each map.
+/// A linear inequality that holds for each map.
 #[derive(Drop)]
 pub(crate) struct FlipCut {
-    // Of slacks and residues.
+    // The terms of its left side.
     pub(crate) terms: Vec<Part>,
-    // What they are at least.
+    // The lower bound of their sum.
     pub(crate) least: i64,
 }
 
-/// Which steps of a walk are counted. Any are sound.
+/// A walk and the steps of it that are counted. Any choice gives a valid cut.
 #[derive(Drop)]
 pub(crate) struct Flip {
-    // Closed, or between events that have few residues.
+    // A closed walk, or one between events with few residues.
     pub(crate) walk: Walk,
-    // For each step; then for the first event and for the last one.
+    // One flag for each step, then one for the first event and one for the last.
     pub(crate) counted: Vec<bool>,
-    // What is missing to whole periods.
+    // The distance from `base` to the next multiple of the period.
     pub(crate) rest: i64,
 }
 
 impl Flip {
-    /// The same once more.
+    /// A copy of the flip.
     pub(crate) fn copy(&self) -> Result<Flip, Memory> {
         let Ok(counted) = self.counted.clone() else {
             return Err(Memory);
@@ -62,7 +64,7 @@ impl Flip {
     }
 }
 
-/// Flips once more.
+/// Copies of flips.
 pub(crate) fn copies_of(alloc: Global, flips: &[Flip]) -> Result<Vec<Flip>, Memory> {
     let mut copies = Vec::new(alloc);
     for flip in flips {
@@ -73,39 +75,43 @@ pub(crate) fn copies_of(alloc: Global, flips: &[Flip]) -> Result<Vec<Flip>, Memo
     Ok(copies)
 }
 
-/// A step or an end of a walk: its time is the fixed one and so often the number.
+/// A step or an end of a walk. Its time is `fixed` plus `rate` times a variable.
 #[derive(Clone, Copy)]
 struct Piece {
-    // By index.
+    // The index of the variable.
     number: usize,
+    // 1 if the time grows with the variable, -1 if it falls.
     rate: i64,
+    // The part of the time that does not depend on the variable.
     fixed: i64,
-    // In which its time is.
+    // The range of the time.
     range: Range,
+    // Whether the step is counted.
     is_counted: bool,
 }
 
-/// A period, and what is missing to whole ones.
+/// The period, and the distance to the next multiple of it.
 #[derive(Clone, Copy)]
 struct Rest {
-    // Any two.
+    // The period; any number.
     period: u16,
+    // The distance; any number.
     rest: i64,
 }
 
-/// A flip cut of the steps so far.
+/// A flip cut in the making, for the steps so far.
 #[derive(Drop)]
 struct Making {
-    // Of the numbers of these steps.
+    // The terms of these steps.
     terms: Vec<Part>,
-    // Least times of steps that are counted, and greatest ones of others.
+    // The least times of counted steps plus the greatest times of others.
     base: i64,
-    // What the terms and the rest times the steps' time are at least.
+    // A lower bound on the terms plus `rest` times the time of these steps.
     least: i64,
 }
 
 impl Making {
-    /// The same with a term more.
+    /// The same with one more term.
     fn with(self, number: usize, rate: i64, base: i64, least: i64) -> Option<Making>
         ensures { IfSome result (λ made. (made.base ≡ base) × ((made.least ≡ least)
             × ((zs : List ℕ) → left made.terms.items zs ≡ left self.terms.items zs
@@ -118,7 +124,7 @@ impl Making {
         Some(Making { terms, base, least })
     }
 
-    /// With a step that is counted.
+    /// The same with one more counted step.
     fn with_counted(self, piece: Piece, rest: Rest) -> Option<Making>
         ensures { IfSome result (λ made. (zs : List ℕ) (time : ℤ)
             → IsIn piece.range (piece.fixed +ℤ piece.rate *ℤ pos (slice_index zs piece.number))
@@ -138,7 +144,7 @@ impl Making {
         Some(made)
     }
 
-    /// With a step that is not counted.
+    /// The same with one more step that is not counted.
     fn with_other(self, piece: Piece, rest: Rest) -> Option<Making>
         ensures { IfSome result (λ made. (zs : List ℕ) (time : ℤ)
             → IsIn piece.range (piece.fixed +ℤ piece.rate *ℤ pos (slice_index zs piece.number))
@@ -155,7 +161,7 @@ impl Making {
         Some(made)
     }
 
-    /// With a step more.
+    /// The same with one more step.
     fn with_piece(self, piece: Piece, rest: Rest) -> Option<Making>
         ensures { IfSome result (λ made. (zs : List ℕ) (time : ℤ)
             → IsIn piece.range (piece.fixed +ℤ piece.rate *ℤ pos (slice_index zs piece.number))
@@ -217,7 +223,7 @@ fn first_piece(arcs: &[Arc], numbers: &[Range], event: usize, is_counted: bool) 
     })
 }
 
-/// The residue at the last event of a walk, which counts against it.
+/// The residue at the last event of a walk, which is subtracted.
 fn last_piece(arcs: &[Arc], numbers: &[Range], event: usize, is_counted: bool) -> Option<Piece>
     ensures { IfSome result (λ piece. (zs : List ℕ) → AreIn numbers.now zs
         → (piece.fixed +ℤ piece.rate *ℤ pos (slice_index zs piece.number) ≡ neg_ℤ (residue arcs.now zs event))
@@ -235,12 +241,12 @@ fn last_piece(arcs: &[Arc], numbers: &[Range], event: usize, is_counted: bool) -
     })
 }
 
-/// Whether the step at a place is counted.
+/// Whether the step at an index is counted.
 fn is_counted(counted: &[bool], index: usize) -> bool {
     counted.get(index).copied() == Some(true)
 }
 
-/// What is made of the steps of a walk.
+/// The inequality of the steps of a walk.
 fn of_steps(
     alloc: Global,
     arcs: &[Arc],
@@ -264,7 +270,7 @@ fn of_steps(
     Some(made)
 }
 
-/// What is made of a walk. Where it leads back to its first event, the residue there counts for nothing.
+/// The inequality of a walk. If the walk is closed, the residue at its ends cancels.
 fn of_walk(
     alloc: Global,
     arcs: &[Arc],
@@ -288,7 +294,7 @@ fn of_walk(
     Some(ended)
 }
 
-/// The cut that is made of steps, where the base and the rest are whole periods and all numbers fit.
+/// The cut of these steps, if base and rest are a multiple of the period and all numbers fit.
 fn completed(made: Making, rest: Rest) -> Option<FlipCut>
     requires { 0 < rest.period }
     ensures { IfSome result (λ cut. (zs : List ℕ) (periods : ℤ)
@@ -310,7 +316,8 @@ fn completed(made: Making, rest: Rest) -> Option<FlipCut>
     })
 }
 
-/// The flip cut of a walk, if it leads from its first event to its last, the rest is one, and all numbers fit.
+/// The flip cut of a walk, if it leads from its first event to its last, the rest is valid, and all numbers
+/// fit.
 pub(crate) fn flip_cut(
     alloc: Global,
     cycles: &Cycles,

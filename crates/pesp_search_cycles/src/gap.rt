@@ -1,8 +1,8 @@
-//! Where rows have gaps.
+//! Gaps of domains.
 
 use crate::Range;
 
-/// The last residue of a row that is not above `at`.
+/// The last residue of a domain that is at most `at`.
 fn last_below(row: &[bool], at: i64) -> Option<i64> {
     let mut last = None;
     for (index, is_there) in row.iter().enumerate() {
@@ -14,7 +14,7 @@ fn last_below(row: &[bool], at: i64) -> Option<i64> {
     last
 }
 
-/// The first residue of a row that is not below `at`.
+/// The first residue of a domain that is at least `at`.
 fn first_above(row: &[bool], at: i64) -> Option<i64> {
     for (index, is_there) in row.iter().enumerate() {
         let residue = index as i64;
@@ -25,7 +25,8 @@ fn first_above(row: &[bool], at: i64) -> Option<i64> {
     None
 }
 
-/// Where a range is to be cut so that a residue that its row lacks is in neither half that has one of the row.
+/// The end of the lower half if a range is split at the gap of its domain around the residue; none if the
+/// domain contains the residue.
 pub(crate) fn gap_at(row: &[bool], range: Range, residue: i64) -> Option<i64> {
     let next = first_above(row, residue);
     if next == Some(residue) {

@@ -1,8 +1,9 @@
-//! The arcs of a network, and one more node: the origin, which stands at 0.
+//! The arcs of a network, and one more node: the origin, whose residue is 0.
 //!
-//! An arc leads from it to each event whose residue is in a narrower range than all, unless arcs and other rows imply that:
-//! where some times are fixed domains are narrow all around, and with an arc to each event there would be a cycle more for each.
-//! Nothing that is made of these is relied upon: walks are tested, and maps are costed.
+//! An arc leads from the origin to each event whose domain is not full, unless arcs and other domains imply
+//! that domain. With fixed times domains are narrow everywhere, so arcs to all events would add one cycle each
+//! (docs/HISTORY.md, "Rows that fixed times imply"). No proof relies on this graph: walks are tested, and the
+//! cost of maps is computed.
 
 ghost use Rattle.std.specs.Prelude.{◌<◌};
 
@@ -14,23 +15,26 @@ use pesp_search_graph::{Arc, Step};
 use pesp_search_network::Network;
 use std::alloc::Global;
 
-/// Where there are more cycles than this, those of a tree are taken: narrow ones are found by comparing each with all.
+/// The most cycles for which narrow ones are found, by comparing each candidate with all others. Above it,
+/// those of a spanning tree are used: 100 events with 700 activities took 0.27 s instead of 1.11
+/// (docs/HISTORY.md, "What the search could do without").
 const MOST_NARROW: usize = 400;
 
-/// How many numbers a unit of a budget goes through.
+/// The visited numbers of one unit of a budget (docs/DECISIONS.md, "Search").
 const NUMBERS_OF_UNIT: u64 = 1_024;
 
-/// The arcs of a network, and after them those from the origin.
+/// The arcs of a network, then those from the origin.
 #[derive(Drop)]
 pub(crate) struct Graph {
-    // The origin is the last of the nodes.
+    // The number of nodes; the origin is the last one.
     nodes: usize,
-    // How many are those of the network.
+    // The number of arcs of the network itself.
     own: usize,
+    // All arcs, those of the network first.
     arcs: Vec<Arc>,
 }
 
-/// Whether a row lacks a residue.
+/// Whether a domain lacks a residue.
 fn has_gap(row: &[bool]) -> bool {
     for is_there in row {
         if !*is_there {
@@ -40,8 +44,8 @@ fn has_gap(row: &[bool]) -> bool {
     false
 }
 
-/// The weight of an arc from the origin, in place of none: one that admits all residues counts as well, where its row
-/// has a gap.
+/// The weight of an arc from the origin; none if the arc is not needed. A range of all residues needs it only
+/// if the domain has a gap.
 fn weight_of(range: Range, row: &[bool], period: Period) -> Option<u32> {
     let last = i64::from(period.get()) - 1;
     if 0 < range.low || range.high < last {
@@ -50,7 +54,7 @@ fn weight_of(range: Range, row: &[bool], period: Period) -> Option<u32> {
     if has_gap(row) { Some(1) } else { None }
 }
 
-/// Whether a range of more than one residue says no more than a row that is implied.
+/// Whether a range of several residues contains all of an implied domain, so that it adds nothing.
 fn is_implied(network: &Network, event: usize, range: Range) -> bool
     requires { event < network.now.events }
 {
@@ -62,8 +66,8 @@ fn is_implied(network: &Network, event: usize, range: Range) -> bool
     range.low <= all.low && all.high <= range.high
 }
 
-/// The arc from the origin to an event whose residue is in this range, if it is a narrower one than all, or its row has a
-/// gap, and it is not implied.
+/// The arc from the origin to an event with this range, if the range is not full or the domain has a gap, and
+/// the domain is not implied.
 fn origin_arc(network: &Network, event: usize, range: Range) -> Option<Arc>
     requires { event < network.now.events }
 {
@@ -83,12 +87,12 @@ fn origin_arc(network: &Network, event: usize, range: Range) -> Option<Arc>
     })
 }
 
-/// Cycles that make up all others.
+/// The kind of a cycle basis.
 #[derive(Clone, Copy)]
 pub(crate) enum Basis {
-    /// Those of a spanning tree, which are found at once.
+    /// The fundamental cycles of a spanning tree, which take almost no time to find.
     Tree,
-    /// Narrow ones.
+    /// Narrow cycles, which give better bounds.
     Narrow,
 }
 
@@ -101,13 +105,13 @@ impl Basis {
     }
 }
 
-/// So many numbers in units.
+/// The units for this number of visited numbers.
 pub(crate) fn units_of(numbers: u64) -> u64 {
     numbers / NUMBERS_OF_UNIT
 }
 
 impl Graph {
-    /// The graph of a network whose events have their residues in these ranges.
+    /// The graph of a network whose events have these ranges of residues.
     pub(crate) fn of(
         alloc: Global,
         network: &Network,
@@ -143,12 +147,12 @@ impl Graph {
         &self.arcs
     }
 
-    /// How many cycles make up all others.
+    /// The number of cycles of a basis.
     pub(crate) fn cycle_count(&self, alloc: Global, period: Period) -> Result<usize, Memory> {
         cycle_count(alloc, period, self.nodes, &self.arcs)
     }
 
-    /// The event to which an arc leads from the origin, if it does.
+    /// The event to which an arc from the origin leads; none for other arcs.
     fn event_of(&self, arc: usize) -> Option<usize> {
         if arc < self.own {
             return None;
@@ -159,7 +163,7 @@ impl Graph {
         }
     }
 
-    /// The event at which a step begins.
+    /// The event at which a step starts.
     fn start_of(&self, step: Step) -> usize {
         match self.arcs.get(step.arc) {
             Some(arc) if step.along => arc.from,
@@ -168,7 +172,7 @@ impl Graph {
         }
     }
 
-    /// Where steps leave the origin, or 0 where they do not.
+    /// The index of the first step from the origin; 0 if there is none.
     fn leave(&self, steps: &[Step]) -> usize {
         for index in 0..steps.len() {
             let step = steps[index];
@@ -179,7 +183,7 @@ impl Graph {
         0
     }
 
-    /// The walk of steps that lead back to where they begin, without those to the origin and from it.
+    /// The walk of a cycle, without the steps to and from the origin.
     fn walk_of(&self, alloc: Global, steps: &[Step]) -> Result<Option<Walk>, Memory> {
         let start = self.leave(steps);
         let Some(first) = steps.get(start) else {
@@ -217,7 +221,7 @@ impl Graph {
         Ok(walks)
     }
 
-    /// How many units it takes to find narrow cycles, or so; none where there are too many.
+    /// An estimate of the units needed to find narrow cycles; none if there are too many.
     pub(crate) fn units_of_narrow(
         &self,
         alloc: Global,
@@ -230,7 +234,7 @@ impl Graph {
         Ok(Some(units_of(ways.saturating_mul(16))))
     }
 
-    /// The walks that make up all others.
+    /// The walks of a cycle basis.
     pub(crate) fn walks(
         &self,
         alloc: Global,
@@ -245,7 +249,7 @@ impl Graph {
         self.walks_of(alloc, &cycles)
     }
 
-    /// The walks of narrow cycles, so many at most; none where there are too many.
+    /// The walks of the narrowest cycles, at most `most`; none if there are too many cycles.
     pub(crate) fn candidates(
         &self,
         alloc: Global,
@@ -260,7 +264,7 @@ impl Graph {
         self.walks_of(alloc, &cycles)
     }
 
-    /// A walk from the event to one that is held, or to one in a narrower range than all.
+    /// A walk from the event to a held event, or to one whose range is not full.
     pub(crate) fn walk_from(
         &self,
         alloc: Global,

@@ -1,4 +1,4 @@
-//! The maps of least cost whose events are held at residues, and questions for lesser ones.
+//! The maps of least cost with some events held at residues, and questions for maps with smaller residues.
 
 ghost use Rattle.std.specs.Prelude.{◌≡◌, ◌+◌, ◌++◌, ◌<◌, ◌^◌, All, List, IfOk, length, slice_set};
 ghost use Rattle.pesp_search_least.specs.Spending.{OnlySpends};
@@ -17,41 +17,42 @@ use pesp_base::Memory;
 use pesp_search_least::{Budget, Limits, Outcome, Region, least};
 use std::alloc::Global;
 
-/// The maps of leaves whose events have their residues in ranges: some are held at one.
+/// The maps in the leaves with residues in these ranges. Held events have a single residue.
 #[derive(Drop)]
 pub(crate) struct Held<'a> {
-    // Of the whole network.
+    // The whole network.
     cycles: &'a Cycles<'a>,
     // One for each event.
     residues: Vec<Range>,
-    // Boxes of these cycles.
+    // Boxes of this network.
     leaves: Leaves,
-    // Those to events that are held.
+    // Walks to held events.
     walks: Vec<Walk>,
     // For each node whether it is held; the origin is.
     held: Vec<bool>,
+    // Allocates everything here.
     alloc: Global,
     ghost long: { length residues.items ≡ cycles.now.network.events },
     ghost fit: { All (AreBoxes cycles.now) leaves.boxes.items },
 }
 
-/// What is asked of each leaf.
+/// A question to each leaf.
 #[derive(Drop)]
 struct Question<'a> {
-    // With the walks to events that are held, and that of the question.
+    // The network with the walks to held events and that of the question.
     cycles: Cycles<'a>,
-    // One for each event, lesser at that which is asked for.
+    // One for each event, narrowed at the event in question.
     residues: Vec<Range>,
-    // From the event that is asked for.
+    // A walk from the event in question to a held one, if there is one.
     walk: Option<Walk>,
-    // Which each map has at least.
+    // The least cost, which no map is below.
     cost: u64,
     ghost long: { length residues.items ≡ cycles.network.events },
     ghost room: { cost + 1 < 2 ^ 64 },
 }
 
 impl<'a> Held<'a> {
-    /// The maps of leaves that have these residues.
+    /// The maps in the leaves with these residues.
     pub(crate) fn new(
         alloc: Global,
         cycles: &'a Cycles<'a>,
@@ -80,14 +81,15 @@ impl<'a> Held<'a> {
         })
     }
 
-    /// A walk from the event to one that is held, if there is one.
+    /// A walk from the event to a held one, if there is one.
     fn walk(&self, event: usize) -> Result<Option<Walk>, Memory> {
         let network = self.cycles.network();
         let graph = Graph::of(self.alloc, network, &self.residues)?;
         graph.walk_from(self.alloc, network.period(), event, &self.held)
     }
 
-    /// Takes a walk to what is held from the event.
+    /// Adds a walk from the event to a held one. Without such walks the leaves' bounds miss the held residues:
+    /// 16 of 19 networks took over 4 s (docs/HISTORY.md, "What the search could do without").
     fn join(&mut self, event: usize) -> Result<(), Memory>
         ensures cycles { self.new.cycles ≡ self.old.cycles }
         ensures residues { self.new.residues ≡ self.old.residues }
@@ -96,8 +98,8 @@ impl<'a> Held<'a> {
         let Some(walk) = self.walk(event)? else {
             return Ok(());
         };
-        // Where both ends of an arc are held, the range of its slack tells as much.
-        if walk.steps.len() < 2 {
+        // With both ends of an arc held, the range of its slack says the same. It does not if one end has a window.
+        if walk.steps.len() < 2 && self.held.get(walk.to) == Some(&true) {
             return Ok(());
         }
         let arcs = self.cycles.network().arcs();
@@ -108,7 +110,7 @@ impl<'a> Held<'a> {
         Ok(())
     }
 
-    /// The same ranges with this one for an event.
+    /// The ranges, with another one for the event.
     fn with(&self, event: usize, range: Range) -> Result<Vec<Range>, Memory>
         requires { event < self.now.cycles.now.network.events }
         ensures { IfOk result (λ residues.
@@ -121,7 +123,7 @@ impl<'a> Held<'a> {
         Ok(residues)
     }
 
-    /// The cycles with the walks to events that are held, and one more, if there is one.
+    /// The network with the walks to held events, and with one more walk if there is one.
     fn cycles_with(&self, walk: &Option<Walk>) -> Result<Cycles<'a>, Memory>
         ensures network { IfOk result (λ cycles. cycles.network ≡ self.now.cycles.now.network) }
         ensures walks { IfOk result (λ cycles. (others : List Path)
@@ -136,7 +138,7 @@ impl<'a> Held<'a> {
         self.cycles.with(self.alloc, &walks)
     }
 
-    /// The question for these residues, which the event is asked for.
+    /// The question whether a map has these residues, which are narrowed at the event.
     fn question(
         &self,
         event: usize,
@@ -162,7 +164,7 @@ impl<'a> Held<'a> {
         })
     }
 
-    /// How many numbers a question goes through before it is searched, or so.
+    /// An estimate of the numbers copied for a question before it is searched.
     fn copying(&self, proposer: &Proposer) -> u64 {
         let network = self.cycles.network();
         let numbers = network.arcs().len() + network.events();
@@ -171,7 +173,7 @@ impl<'a> Held<'a> {
             .saturating_add(proposer.size() as u64)
     }
 
-    /// A map of the least cost of all in a leaf that has the residues of the question; or that there is none.
+    /// A map of least cost in a leaf with the residues of the question, or the answer that there is none.
     fn answer(
         &self,
         leaf: usize,
@@ -248,7 +250,7 @@ impl<'a> Region for Held<'a> {
     }
 
     fn hold(&mut self, event: usize, residue: u16) {
-        // Where memory is out there is a walk less.
+        // If memory runs out, one walk is missing, which only weakens bounds.
         let _ = self.join(event);
         if let Some(held) = self.held.get_mut(event) {
             *held = true;

@@ -1,4 +1,4 @@
-//! Searches for a least map of a network that are kept, and can be gone on with.
+//! Searches for a map of least cost that are kept and can be resumed.
 
 ghost use Rattle.std.specs.Prelude.{◌≡◌, IfOk, IfSome, IsNone};
 ghost use Rattle.pesp_search_least.specs.Spending.{OnlySpends};
@@ -24,20 +24,20 @@ use pesp_search_network::Network;
 use std::alloc::Global;
 use std::marker::Model;
 
-/// A search for a map of least cost that stands still.
+/// A stopped search for a map of least cost.
 #[derive(Drop)]
 pub(crate) struct LeastSearch {
-    // As it was given.
+    // The network that is searched.
     network: Network,
-    // Each is kept by all maps.
+    // Each holds for all maps of the network.
     cuts: Vec<FlipCut>,
-    // What the cuts are made of.
+    // The flips of the cuts.
     flips: Vec<Flip>,
     // Each leads from its first event to its last.
     walks: Vec<Walk>,
-    // Of the cycles that these make.
+    // The open nodes, over these walks and cuts.
     stack: Stack,
-    // Whose turn it is, and how much of it is left.
+    // The current turn, and how much of it is left.
     turn: Turn,
 }
 
@@ -55,7 +55,7 @@ impl Model for LeastSearch {
 }
 
 impl LeastSearch {
-    /// A search without cuts at its beginning.
+    /// A search without cuts that has not started.
     pub(crate) fn new(
         alloc: Global,
         network: Network,
@@ -75,7 +75,7 @@ impl LeastSearch {
         Ok(search.at(turn.after(spent_of(before, budget.left))))
     }
 
-    /// A search by walks and by the cuts of flips, at its beginning.
+    /// A search with walks and with the cuts of flips that has not started.
     fn of(
         alloc: Global,
         network: Network,
@@ -109,12 +109,12 @@ impl LeastSearch {
         &self.network
     }
 
-    /// How many units its turn has left; none where it goes on to the end.
+    /// The units left in its turn; none if the turn is unlimited.
     pub(crate) fn units(&self) -> Option<u64> {
         self.turn.units
     }
 
-    /// The same search for what costs less than another cap, if what it knows is enough for that.
+    /// The same search for costs below another cap, if its nodes cover that.
     pub(crate) fn within(self, limits: Limits) -> Option<LeastSearch>
         requires { IsLowerBound (IsCosted self.network) limits.floor }
         ensures network { IfSome result (λ search. search.network ≡ self.network) }
@@ -139,7 +139,7 @@ impl LeastSearch {
         })
     }
 
-    /// Goes on as far as the budget goes: what the search comes to, and where it stops how it can be gone on with.
+    /// Continues as long as the budget lasts. Returns the result, and the state to resume if the search stops.
     pub(crate) fn advance(
         self,
         alloc: Global,
@@ -181,17 +181,17 @@ impl LeastSearch {
         Ok((outcome, Some(search)))
     }
 
-    /// Whether it goes by cuts, too.
+    /// Whether it uses cuts.
     pub(crate) fn has_cuts(&self) -> bool {
         !self.cuts.is_empty()
     }
 
-    /// What its cuts are made of.
+    /// The flips of its cuts.
     pub(crate) fn flips(&self) -> &[Flip] {
         &self.flips
     }
 
-    /// The turn in which it is.
+    /// The current turn.
     pub(crate) fn turn(&self) -> Turn {
         self.turn
     }
@@ -204,7 +204,7 @@ impl LeastSearch {
         LeastSearch { turn, ..self }
     }
 
-    /// Another search for the same, from its first node on but with what this one has found.
+    /// Another search for the same, from the root, which knows what this one has found.
     pub(crate) fn beside(
         &self,
         alloc: Global,
@@ -220,7 +220,8 @@ impl LeastSearch {
         LeastSearch::new(alloc, network, turn, progress, budget)
     }
 
-    /// Another search for the same by the cuts of these flips, too, from its first node on but with what this one has found.
+    /// Another search for the same with the cuts of these flips, from the root, which knows what this one has
+    /// found.
     pub(crate) fn with_cuts(
         &self,
         alloc: Global,
@@ -236,12 +237,12 @@ impl LeastSearch {
         Ok(LeastSearch::of(alloc, network, walks, flips, progress)?.at(turn))
     }
 
-    /// What cuts are for.
+    /// What cuts are sought for.
     pub(crate) fn aim(&self) -> Aim {
         self.stack.progress.aim()
     }
 
-    /// Goes on with rounds for flip cuts, where they are open: how many units they spent.
+    /// Resumes the rounds for flip cuts, if they are open. Returns the units spent.
     pub(crate) fn seek_cuts(
         &self,
         alloc: Global,
@@ -254,7 +255,7 @@ impl LeastSearch {
         seek_cuts(alloc, &self.network, &self.walks, aim, rounds, budget)
     }
 
-    /// The same search with what a local search finds beside it, if that costs less than what is known.
+    /// The same search with a better map, if the local search finds one.
     pub(crate) fn improved(
         self,
         alloc: Global,
@@ -272,7 +273,7 @@ impl LeastSearch {
         }
     }
 
-    /// What is known with a map that was found elsewhere, where it is one and costs less than what is known without.
+    /// What is known with a map found elsewhere, if it is valid and better than the best one.
     fn progress_with(&self, map: Vec<u16>) -> Option<Progress>
         ensures progress { IfSome result (IsProgress (IsCosted self.now.network)) }
         ensures cap { IfSome result (λ progress. progress.limits.cap ≡ self.now.cap) }
@@ -286,7 +287,7 @@ impl LeastSearch {
         Some(Progress { limits, best })
     }
 
-    /// The same search with a map that was found elsewhere, if that costs less than what is known.
+    /// The same search with a map found elsewhere, if that is better.
     fn with_map(self, map: Vec<u16>) -> Result<LeastSearch, Memory>
         ensures network { IfOk result (λ search. search.network ≡ self.network) }
         ensures cap { IfOk result (λ search. search.cap ≡ self.cap) }
@@ -297,7 +298,7 @@ impl LeastSearch {
         }
     }
 
-    /// What its own nodes tell of the least cost.
+    /// The lower bound of its own nodes.
     pub(crate) fn own_bound(&self) -> u64 {
         self.stack.own_bound()
     }
@@ -312,7 +313,7 @@ impl LeastSearch {
         self.with_progress(&other.stack.progress)
     }
 
-    /// The same search with more that is known of the network below the same cap.
+    /// The same search with more knowledge of the network below the same cap.
     fn with_progress(self, progress: &Progress) -> Result<LeastSearch, Memory>
         requires progress { IsProgress (IsCosted self.network) progress.now }
         requires cap { progress.now.limits.cap ≡ self.cap }

@@ -1,4 +1,7 @@
-//! Two searches for the same map of least cost, without cuts and with them, that take turns.
+//! Two searches for the same map of least cost, with cuts and without, that alternate.
+//!
+//! Neither suits all networks: with cuts, wide spans have far fewer nodes, but narrow ones dearer nodes
+//! (docs/HISTORY.md, "Flip cuts").
 
 ghost use Rattle.std.specs.Prelude.{◌≡◌, IfOk, IfSome, IsNone};
 ghost use Rattle.std.specs.Option.{ForSome};
@@ -17,23 +20,23 @@ use pesp_search_least::{Budget, Limits, Outcome};
 use pesp_search_network::Network;
 use std::alloc::Global;
 
-/// A search for a map of least cost, and another one for the same that rests meanwhile.
+/// A search for a map of least cost, and another for the same that waits.
 #[derive(Drop)]
 pub(crate) struct LeastTurns {
-    // Whose turn it is.
+    // The search whose turn it is.
     pub(crate) search: LeastSearch,
-    // Of the same network, below the same cap.
+    // The waiting search, of the same network and below the same cap.
     resting: Option<LeastSearch>,
-    // Where rounds for the cuts of another search stopped.
+    // The stopped rounds for the cuts of another search.
     rounds: Option<Rounds>,
-    // For maps of the same network.
+    // The local search for maps of the same network.
     local: Local,
     ghost same_network: { ForSome resting (λ other. other.network ≡ search.network) },
     ghost same_cap: { ForSome resting (λ other. other.cap ≡ search.cap) },
 }
 
 impl LeastTurns {
-    /// A search that has no other one beside it.
+    /// A search alone.
     pub(crate) fn alone(search: LeastSearch) -> LeastTurns
         ensures { result.search ≡ search }
     {
@@ -52,17 +55,17 @@ impl LeastTurns {
         self.search.network()
     }
 
-    /// How many units the turn has left; none where it goes on to the end.
+    /// The units left in the turn; none if it is unlimited.
     pub(crate) fn units(&self) -> Option<u64> {
         self.search.turn().units
     }
 
-    /// What the cuts of the search are made of, once more.
+    /// A copy of the flips of the search's cuts.
     pub(crate) fn flips(&self, alloc: Global) -> Result<Vec<Flip>, Memory> {
         copies_of(alloc, self.search.flips())
     }
 
-    /// The same searches for what costs less than another cap, if what they know is enough for that.
+    /// The same searches for costs below another cap, if their nodes cover that.
     pub(crate) fn within(self, limits: Limits) -> Option<LeastTurns>
         requires { IsLowerBound (IsCosted self.search.network) limits.floor }
         ensures network { IfSome result (λ turns. turns.search.network ≡ self.search.network) }
@@ -87,7 +90,7 @@ impl LeastTurns {
         })
     }
 
-    /// Goes on as far as the budget goes: what the search comes to, and where it stops how it can be gone on with.
+    /// Continues as long as the budget lasts. Returns the result, and the state to resume if the search stops.
     pub(crate) fn advance(
         self,
         alloc: Global,
@@ -127,7 +130,7 @@ impl LeastTurns {
         ))
     }
 
-    /// The turn that comes after.
+    /// The next turn.
     pub(crate) fn next(self, alloc: Global, budget: &mut Budget) -> Result<LeastTurns, Memory>
         ensures network { IfOk result (λ turns. turns.search.network ≡ self.search.network) }
         ensures cap { IfOk result (λ turns. turns.search.cap ≡ self.search.cap) }
@@ -160,7 +163,8 @@ impl LeastTurns {
     }
 }
 
-/// The turn after one of rounds for cuts: of another search with the cuts, where they are of use, or else of the same.
+/// The turn after one of rounds for cuts: of a search with the cuts if they are useful, and else of the same
+/// search.
 fn after_rounds(
     alloc: Global,
     search: LeastSearch,
@@ -188,7 +192,7 @@ fn after_rounds(
     })
 }
 
-/// The other search's turn: a longer one where its bound is no worse.
+/// The other search's turn, longer if its bound is no worse.
 fn exchanged(search: LeastSearch, other: LeastSearch, local: Local) -> Result<LeastTurns, Memory>
     requires network { other.network ≡ search.network }
     requires cap { other.cap ≡ search.cap }

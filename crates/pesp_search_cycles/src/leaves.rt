@@ -1,4 +1,7 @@
-//! The leaves of a search for all maps of least cost: boxes that have each of them.
+//! The leaves of a search for all maps of least cost: boxes that together contain each of them.
+//!
+//! Questions for the first map start from these leaves, not from the root: questions from the root took 80 to
+//! 90 per cent of a region's time (docs/HISTORY.md, "The first timetable, in leaves of a second search").
 
 ghost use Rattle.std.specs.Prelude.{◌≡◌, ◌++◌, ◌∷◌, ◌≤◌, [], IfOk, IfSome, OnOk};
 ghost use Rattle.std.specs.List.{AllZip};
@@ -16,24 +19,26 @@ use pesp_search_graph::Arc;
 use pesp_search_least::Relaxation;
 use std::alloc::Global;
 
-/// How many leaves there are at most: more are as dear to ask as all maps together.
+/// The most leaves: asking more of them takes as long as asking for all maps at once. No trial of this number
+/// is recorded.
 const MOST_LEAVES: usize = 64;
 
-/// How many entries their tableaus have together at most: 16 MB.
+/// The most entries of their tableaus together: 16 MB. With larger tableaus fewer leaves are kept. No trial of
+/// this number is recorded.
 const MOST_ENTRIES: usize = 2_097_152;
 
-/// Boxes, and what is proposed in each.
+/// Boxes, and a proposer for each.
 #[derive(Drop)]
 pub(crate) struct Leaves {
-    // Of one network, with the same walks.
+    // Boxes of one network with the same walks.
     pub(crate) boxes: Vec<Boxes>,
-    // One for each of the boxes: it knows walks more, and nothing that it says is relied upon.
+    // One for each of the boxes. It may have more walks, and no proof relies on it.
     pub(crate) proposers: Vec<Proposer>,
-    // What the maps in all boxes cost at least.
+    // A lower bound on the cost of the maps in all boxes.
     pub(crate) least: u64,
 }
 
-/// What maps cost at least where some cost so much at least, and others as a bound tells, which is none where there are no others.
+/// The smaller of two lower bounds, the second of which is none if it belongs to no map.
 fn lesser(least: u64, bound: Option<u64>) -> u64
     ensures least { result ≤ least }
     ensures bound { IfSome bound (λ bound. result ≤ bound) }
@@ -45,7 +50,7 @@ fn lesser(least: u64, bound: Option<u64>) -> u64
 }
 
 impl Leaves {
-    /// None, of maps that cost so much at least.
+    /// No leaves yet, with this lower bound.
     pub(crate) fn new(alloc: Global, least: u64) -> Leaves
         ensures boxes { result.boxes.items ≡ [] }
         ensures least { result.least ≡ least }
@@ -57,7 +62,7 @@ impl Leaves {
         }
     }
 
-    /// Takes one leaf more.
+    /// Appends a leaf.
     pub(crate) fn push(&mut self, node: Node) -> Result<(), Memory>
         ensures boxes { OnOk result (self.new.boxes.items ≡ self.old.boxes.items ++ node.entry.boxes ∷ []) }
         ensures fit { AreBoxes node.entry.cycles.now node.entry.boxes }
@@ -72,7 +77,7 @@ impl Leaves {
         Ok(())
     }
 
-    /// Whether their tableaus have few enough entries together.
+    /// Whether their tableaus together have few enough entries.
     pub(crate) fn are_few(&self) -> bool {
         match self.proposers.first() {
             Some(proposer) => self.boxes.len() <= most_of(proposer.size()),
@@ -80,7 +85,7 @@ impl Leaves {
         }
     }
 
-    /// The same leaves once more.
+    /// A copy of the leaves.
     pub(crate) fn copy(&self, alloc: Global) -> Result<Leaves, Memory>
         ensures { IfOk result (λ copy. AllZip AreSame self.now.boxes.items copy.boxes.items) }
     {
@@ -98,7 +103,7 @@ impl Leaves {
         Ok(copy)
     }
 
-    /// What is proposed in a leaf, with a walk more, if there is one.
+    /// The proposer of a leaf, with one more walk if there is one.
     pub(crate) fn proposer(
         &self,
         alloc: Global,
@@ -116,7 +121,7 @@ impl Leaves {
         Ok(copy)
     }
 
-    /// Takes one walk more in each.
+    /// Adds a walk to each proposer.
     pub(crate) fn take(&mut self, alloc: Global, arcs: &[Arc], walk: &Walk) -> Result<(), Memory>
         ensures { self.new.boxes ≡ self.old.boxes }
     {
@@ -127,7 +132,7 @@ impl Leaves {
     }
 }
 
-/// How many leaves whose tableaus have so many entries are kept.
+/// The most leaves to keep if each tableau has this number of entries.
 pub(crate) fn most_of(entries: usize) -> usize {
     (MOST_ENTRIES / entries.max(1)).clamp(1, MOST_LEAVES)
 }

@@ -1,4 +1,4 @@
-//! Maps of least cost of a network, by ranges of what its slacks add up to along walks.
+//! Maps of least cost of a network, by bounds on the sums of slacks along walks.
 #![tactic(auto)]
 
 mod admitted;

@@ -1,4 +1,4 @@
-//! A local search beside a search by cycles. Nothing of it is relied upon: its maps are costed.
+//! A local search beside a search by cycles. No proof relies on it: the cost of its maps is computed.
 
 ghost use Rattle.pesp_search_least.specs.Spending.{OnlySpends};
 
@@ -10,22 +10,23 @@ use pesp_search_maps::{LocalSearch, first_map};
 use pesp_search_network::Network;
 use std::alloc::Global;
 
-/// How many numbers a unit goes through.
+/// The visited numbers of one unit (docs/DECISIONS.md, "Search").
 const NUMBERS_OF_UNIT: u64 = 1_024;
 
-/// It has one unit for so many of the search by cycles.
+/// It gets one unit for this number of units of the search by cycles, at each step: run only between turns, it
+/// did nothing in long ones (docs/HISTORY.md, "A local search, turns by bounds, and tied events as one").
 const SHARE: u64 = 4;
 
 /// A local search for maps of one network.
 #[derive(Drop)]
 pub(crate) struct Local {
-    // Of the network's arcs and those from the origin, once it has a unit.
+    // Over the network's arcs and those from the origin; none before its first unit.
     search: Option<LocalSearch>,
-    // So many units it may have.
+    // The number of units it may spend.
     units: u64,
 }
 
-/// A local search from the best map that is known, or else from one along narrow arcs.
+/// A local search from the best known map, or else from one along narrow arcs.
 fn search_from(
     alloc: Global,
     network: &Network,
@@ -42,7 +43,7 @@ fn search_from(
     LocalSearch::new(alloc, period, nodes, graph.arcs(), origin, &map)
 }
 
-/// Whether the best map of a local search is dearer than one that is known.
+/// Whether the best map of a local search is worse than a known one.
 fn is_behind(search: &LocalSearch, best: &Option<Candidate>) -> bool {
     let charge = search.charge();
     match best {
@@ -51,7 +52,7 @@ fn is_behind(search: &LocalSearch, best: &Option<Candidate>) -> bool {
     }
 }
 
-/// The same local search, or one from the best map where that is known to cost less.
+/// The same local search, or a new one from the best map if that costs less.
 fn caught_up(
     alloc: Global,
     network: &Network,
@@ -65,7 +66,7 @@ fn caught_up(
 }
 
 impl Local {
-    /// One that has no unit yet.
+    /// One without units.
     pub(crate) fn new() -> Local {
         Local {
             search: None,
@@ -73,17 +74,17 @@ impl Local {
         }
     }
 
-    /// Gives it its share of so many units.
+    /// Adds its share of these units.
     pub(crate) fn earn(&mut self, units: u64) {
         self.units = self.units.saturating_add(units / SHARE);
     }
 
-    /// Gives it so many units more.
+    /// Adds units.
     pub(crate) fn give(&mut self, units: u64) {
         self.units = self.units.saturating_add(units);
     }
 
-    /// Goes on for so many units: its best map then, without the origin.
+    /// Spends these units. Returns its best map, without the origin.
     fn go_on(
         &mut self,
         alloc: Global,
@@ -105,7 +106,7 @@ impl Local {
         Ok(map)
     }
 
-    /// Goes on for the units that it has, as far as the budget goes: its best map then, if it had one.
+    /// Spends its units, as far as the budget lasts. Returns its best map, if it had a unit.
     pub(crate) fn advance(
         &mut self,
         alloc: Global,

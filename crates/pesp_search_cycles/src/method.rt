@@ -1,4 +1,4 @@
-//! The search for a map of least cost, and what it keeps where it stops.
+//! The search for a map of least cost, and the state that it keeps when it stops.
 
 ghost use Rattle.std.specs.Prelude.{◌≡◌, ◌+◌, ◌<◌, ◌^◌, IfOk, IfSome};
 ghost use Rattle.pesp_search_least.specs.Order.{EndsUnlessSpent, IsFirstOutcome};
@@ -22,24 +22,26 @@ use pesp_search_least::{Budget, Candidate, First, Limits, Outcome};
 use pesp_search_network::{Method, Network};
 use std::alloc::Global;
 
-/// How many turns a search has at most; the last one goes on to the end.
+/// The most turns of a search; the last one is unlimited. It bounds the recursion over turns, each of which may
+/// be longer than the last by a quarter.
 const MOST_TURNS: usize = 64;
 
-/// How many solved networks are kept: more than a network is cut into.
+/// The most solved networks that are kept: more than the pieces of a network (`MOST_PIECES` in
+/// pesp_search_network).
 const MOST_SOLVED: usize = 128;
 
-/// A network, and a map of least cost.
+/// A network and a map of least cost of it.
 #[derive(Drop)]
 struct Solved {
-    // As it was given.
+    // The network that was searched.
     network: Network,
-    // None costs less.
+    // A map of least cost.
     least: Candidate,
     ghost solves: { IsLeast (IsCosted network) least },
 }
 
 impl Solved {
-    /// What a search below the cap would find.
+    /// The result of a search below the cap.
     fn outcome(&self, cap: u64) -> Result<Outcome, Memory>
         ensures outcome { IfOk result (IsOutcome (IsCosted self.now.network) cap) }
         ensures ends { IfOk result (λ outcome. IsStop outcome → ⊥) }
@@ -55,31 +57,34 @@ impl Solved {
 /// A network with too many cycles, and the local search for its maps.
 #[derive(Drop)]
 struct Rough {
-    // As it was given.
+    // The network that is searched.
     network: Network,
+    // Its local search.
     local: Local,
 }
 
-/// Searches by what the slacks of a network add up to along its cycles.
+/// Searches by cycles.
 ///
-/// One that stops is kept, and goes on where it is asked for the same network again.
+/// A search that stops is kept, and resumed if the same network is searched again. Networks are compared, so no
+/// caller has to promise that they are the same (docs/DECISIONS.md, "A search by cycles").
 #[derive(Drop)]
 pub struct ByCycles {
-    // Where the last one stopped.
+    // The last search for a least map, if it stopped.
     stopped: Option<LeastTurns>,
-    // Where the last one for a first map stopped.
+    // The last search for a first map, if it stopped.
     unsettled: Option<FirstSearch>,
-    // A local search of a network with too many cycles.
+    // The local search of a network with too many cycles.
     rough: Option<Rough>,
-    // Networks that were searched to the end within budgets.
+    // Networks solved within budgets.
     solved: Vec<Solved>,
-    // What the cuts are made of by which the last search ended, and how many arcs its network had. Nothing is relied upon.
+    // The flips with which the last search ended. No proof relies on them.
     flips: Vec<Flip>,
+    // The number of arcs of that search's network.
     arcs: usize,
 }
 
 impl ByCycles {
-    /// Nothing was searched yet.
+    /// A state before the first search.
     pub fn new(alloc: Global) -> ByCycles {
         ByCycles {
             stopped: None,
@@ -91,12 +96,12 @@ impl ByCycles {
         }
     }
 
-    /// How many networks were solved: to be told again each takes a unit.
+    /// The number of solved networks. Repeating the result of one takes a unit.
     pub fn solved(&self) -> usize {
         self.solved.len()
     }
 
-    /// What a search of the network below the cap would find, if a map of least cost is known.
+    /// The result of a search of the network below the cap, if a map of least cost is known.
     fn known(&self, network: &Network, cap: u64) -> Result<Option<Outcome>, Memory>
         ensures outcome { IfOk result (λ known. IfSome known (IsOutcome (IsCosted network.now) cap)) }
         ensures ends { IfOk result (λ known. IfSome known (λ outcome. IsStop outcome → ⊥)) }
@@ -109,7 +114,7 @@ impl ByCycles {
         Ok(None)
     }
 
-    /// Keeps a map of least cost, where there is memory for it.
+    /// Keeps a map of least cost if there is memory for it.
     fn keep(&mut self, network: &Network, least: &Candidate)
         requires { IsLeast (IsCosted network.now) least.now }
     {
@@ -119,11 +124,11 @@ impl ByCycles {
         let (Ok(network), Ok(least)) = (network.copy(), least.copy()) else {
             return;
         };
-        // Where memory is out, it is not kept.
+        // If memory runs out, it is not kept.
         let _ = self.solved.push(Solved { network, least });
     }
 
-    /// The search of the network that stopped, if it can be gone on with for this.
+    /// The stopped search of the network, if it can be resumed for these limits.
     fn stopped(&mut self, network: &Network, limits: Limits) -> Option<LeastTurns>
         requires { IsLowerBound (IsCosted network.now) limits.floor }
         ensures network { IfSome result (λ turns. turns.search.network ≡ network.now) }
@@ -136,7 +141,7 @@ impl ByCycles {
         search.within(limits)
     }
 
-    /// A search of the network at its beginning.
+    /// A new search of the network.
     fn begun(
         alloc: Global,
         network: &Network,
@@ -156,7 +161,7 @@ impl ByCycles {
         Ok(LeastTurns::alone(search))
     }
 
-    /// Keeps what the cuts are made of by which a search ended, where it has some.
+    /// Keeps the flips with which a search ended, if it has any.
     fn end_by(&mut self, flips: Vec<Flip>, arcs: usize) {
         if !flips.is_empty() {
             self.flips = flips;
@@ -164,7 +169,7 @@ impl ByCycles {
         }
     }
 
-    /// Goes on with a search, by so many turns that have an end and then to the end, as far as the budget goes.
+    /// Continues a search as long as the budget lasts: by `left` limited turns, then by an unlimited one.
     fn go_on(
         &mut self,
         alloc: Global,
@@ -206,8 +211,8 @@ impl ByCycles {
 }
 
 impl ByCycles {
-    /// A map below the cap that a local search finds, if it finds one: for a network with too many cycles. The search is kept,
-    /// and goes on where it is asked for the same network again.
+    /// A map below the cap of a network with too many cycles, if a local search finds one. The search is kept,
+    /// and resumed if the same network is searched again.
     pub fn rough(
         &mut self,
         alloc: Global,
@@ -236,7 +241,7 @@ impl ByCycles {
         }
     }
 
-    /// The search for the first map of the network at this cost that stopped, if there is one.
+    /// The stopped search for the first map of the network at this cost, if there is one.
     fn unsettled(&mut self, network: &Network, cost: u64) -> Option<FirstSearch>
         ensures network { IfSome result (λ search. search.network ≡ network.now) }
         ensures cost { IfSome result (λ search. search.cost ≡ cost) }
@@ -249,7 +254,7 @@ impl ByCycles {
         }
     }
 
-    /// The same search at its beginning, from a map of least cost.
+    /// A new search for the first map, from a map of least cost.
     fn begun_from(
         &mut self,
         alloc: Global,
@@ -274,10 +279,10 @@ impl ByCycles {
         FirstSearch::new(alloc, network.copy()?, known, settling, budget)
     }
 
-    /// From a map of least cost to the first one of that cost.
+    /// The first map of least cost, given any map of least cost.
     ///
-    /// Of two maps that one comes first that has the smaller residue at the first event at which they differ. A search that stops
-    /// is kept, and goes on where it is asked for the same network again.
+    /// Of two maps, the one with the smaller residue at the first event where they differ comes first. A search
+    /// that stops is kept, and resumed if the same network is searched again.
     pub fn first(
         &mut self,
         alloc: Global,

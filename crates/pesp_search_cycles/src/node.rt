@@ -1,4 +1,4 @@
-//! Nodes of the search: boxes that admit some maps of a network, with a lower bound of what these cost.
+//! Nodes of the search: boxes that contain some maps of a network, with a lower bound on their costs.
 
 ghost use Rattle.std.specs.Prelude.{◌≡◌, ℕ, ◌+◌, ◌<◌, ◌≤◌, IfNone, IfOk, IfSome, IsTrue, MatchOption, drop, length};
 ghost use Rattle.std.specs.Option.{ForNone, ForSome};
@@ -24,25 +24,25 @@ use pesp_base::Memory;
 use pesp_search_least::{Budget, Candidate, Relaxation, Split};
 use std::alloc::Global;
 
-/// How many numbers are gone through for one node at most.
+/// The most numbers visited for one node, so that each node ends.
 const MOST_NUMBERS: u64 = 1_073_741_824;
 
-/// The maps of a network that boxes admit.
+/// The maps of a network in some boxes.
 #[derive(Drop)]
 pub struct Node<'a> {
-    // The whole one: a node admits some of its maps.
+    // The whole network; the node contains some of its maps.
     cycles: &'a Cycles<'a>,
-    // In which the numbers and the times of the walks are at its maps.
+    // The ranges of the variables and rounds of its maps.
     boxes: Boxes,
-    // What its maps cost at least, or none where there is none.
+    // A lower bound on the cost of its maps; none if it contains no map.
     bound: Option<u64>,
-    // What sums are made in: one for each number.
+    // The work space of sums: one coefficient for each variable.
     rates: Vec<i64>,
-    // Those of the walks, and then those of the cuts.
+    // The multipliers of the walks, then those of the cuts.
     multipliers: Vec<i64>,
-    // Knows multipliers, splits and maps; nothing that it says is relied upon.
+    // Proposes multipliers, splits and maps; no proof relies on it.
     proposer: Proposer,
-    // Whether a map that is at hand is polished.
+    // Whether its maps are polished.
     is_polished: bool,
     ghost sound: { AreCycles cycles.now },
     ghost fit: { AreBoxes cycles.now boxes },
@@ -52,7 +52,7 @@ pub struct Node<'a> {
     ghost lower: { ForSome bound (IsLowerBound (IsSummed cycles.now boxes)) },
 }
 
-/// The greater of two lower bounds; none where one tells that there is no map.
+/// The greater of two lower bounds; none if either shows that there is no map.
 fn greater(bound: Option<u64>, other: Option<u64>) -> Option<u64>
     ensures { result ≡ greater bound other }
 {
@@ -62,7 +62,7 @@ fn greater(bound: Option<u64>, other: Option<u64>) -> Option<u64>
     }
 }
 
-/// How many numbers may be gone through with what is left of a budget.
+/// The numbers that may be visited with the rest of a budget.
 pub(crate) fn most_of(budget: &Budget) -> u64 {
     match budget.left {
         Some(left) => left
@@ -74,7 +74,7 @@ pub(crate) fn most_of(budget: &Budget) -> u64 {
 }
 
 impl<'a> Node<'a> {
-    /// The node of all maps that have these residues, if all numbers fit.
+    /// The node of all maps with these residues, if all numbers fit.
     pub(crate) fn among(
         alloc: Global,
         cycles: &'a Cycles<'a>,
@@ -112,7 +112,7 @@ impl<'a> Node<'a> {
         }))
     }
 
-    /// Whether it is plain that no map is in the boxes.
+    /// Whether the boxes are plainly empty.
     fn is_empty(&self) -> bool
         ensures { IsTrue result → IsEmpty (IsSummed self.now.cycles.now self.now.boxes) }
     {
@@ -125,7 +125,7 @@ impl<'a> Node<'a> {
         has_lost_event(self.cycles.network(), self.residues())
     }
 
-    /// What the multipliers of the proposer tell of the maps' costs.
+    /// The bound that the proposer's multipliers give.
     fn told(&mut self) -> Option<u64>
         ensures cycles { self.new.cycles ≡ self.old.cycles }
         ensures boxes { self.new.boxes ≡ self.old.boxes }
@@ -143,7 +143,7 @@ impl<'a> Node<'a> {
         told
     }
 
-    /// Raises the bound by what the multipliers of the proposer tell.
+    /// Raises the bound to that of the proposer's multipliers.
     fn raise(&mut self)
         ensures cycles { self.new.cycles ≡ self.old.cycles }
         ensures boxes { self.new.boxes ≡ self.old.boxes }
@@ -152,7 +152,7 @@ impl<'a> Node<'a> {
         self.bound = greater(self.bound, told);
     }
 
-    /// Works towards a better bound of maps below the cap.
+    /// Tries to raise the bound of maps below the cap.
     pub(crate) fn solve(&mut self, cap: u64, budget: &mut Budget)
         ensures cycles { self.new.cycles ≡ self.old.cycles }
         ensures boxes { self.new.boxes ≡ self.old.boxes }
@@ -164,7 +164,7 @@ impl<'a> Node<'a> {
         self.raise();
     }
 
-    /// The same of the maps that other boxes, which may have fewer walks, have too.
+    /// The node of those maps that are in other boxes too, which may have fewer walks.
     pub(crate) fn narrowed(mut self, others: &Boxes) -> Node<'a>
         requires numbers { length others.now.numbers.items ≤ length self.boxes.numbers.items }
         requires rounds { length others.now.rounds.items ≤ length self.boxes.rounds.items }
@@ -175,7 +175,8 @@ impl<'a> Node<'a> {
         self
     }
 
-    /// Whether one of its maps is at hand; where not all walks are looked at, whether those that are take whole periods.
+    /// Whether a map is available. If the proposer leaves walks out, whether the rounds of the others are
+    /// whole.
     pub(crate) fn is_settled(&self, alloc: Global) -> Result<bool, Memory> {
         if self.proposer.is_part() {
             return Ok(self.proposer.is_whole(self.cycles.period()));
@@ -183,12 +184,12 @@ impl<'a> Node<'a> {
         Ok(self.candidate(alloc)?.is_some())
     }
 
-    /// How many entries its tableau has.
+    /// The number of entries of its tableau.
     pub(crate) fn entries(&self) -> usize {
         self.proposer.size()
     }
 
-    /// The boxes, and what is proposed in them.
+    /// The boxes and the proposer.
     pub(crate) fn into_parts(self) -> (Boxes, Proposer)
         ensures boxes { result.0 ≡ self.entry.boxes }
         ensures fit { AreBoxes self.entry.cycles.now self.entry.boxes }
@@ -196,7 +197,7 @@ impl<'a> Node<'a> {
         (self.boxes, self.proposer)
     }
 
-    /// The same node, apart from its cycles.
+    /// The same node without its cycles.
     pub(crate) fn asleep(self) -> Waiting
         ensures waiting { IsWaiting self.entry.cycles.now result }
         ensures boxes { result.boxes ≡ self.entry.boxes }
@@ -209,7 +210,7 @@ impl<'a> Node<'a> {
         }
     }
 
-    /// The node of these cycles that waited.
+    /// The waiting node with its cycles.
     pub(crate) fn awake(
         alloc: Global,
         cycles: &'a Cycles<'a>,
@@ -244,7 +245,7 @@ impl<'a> Node<'a> {
         })
     }
 
-    /// A map with its cost, if the boxes admit it.
+    /// A map with its cost, if the boxes contain it.
     fn candidate_of(&self, alloc: Global, map: Vec<u16>) -> Result<Option<Candidate>, Memory>
         ensures none { IfOk result (λ found. IfNone found ((cost : ℕ)
             → IsSummed self.now.cycles.now self.now.boxes map.items cost → ⊥)) }
@@ -269,7 +270,7 @@ impl<'a> Node<'a> {
         &self.boxes.numbers[arcs..]
     }
 
-    /// The map that is left where each event has one residue at most, if the boxes admit it.
+    /// The single map left if each event has at most one residue, if the boxes contain it.
     fn last(&self, alloc: Global) -> Result<Option<Candidate>, Memory>
         requires { AreSingle (drop (length self.now.cycles.now.network.arcs)
             self.now.boxes.numbers.items) }

@@ -1,4 +1,4 @@
-//! Nodes that are searched for leaves: all of a network at once, or of a part of it, or leaves that are gone on with.
+//! Nodes searched for leaves: those of a whole network, those of a part, or leaves to resume.
 
 ghost use Rattle.std.specs.Prelude.{◌≡◌, ℕ, ◌+◌, ◌++◌, ◌∷◌, ◌^◌, ◌<◌, [], All, IfOk, IfSome, List, OnOk, length};
 ghost use Rattle.pesp_search_least.specs.Spending.{OnlySpends};
@@ -19,32 +19,33 @@ use pesp_base::Memory;
 use pesp_search_least::{Budget, Limits, Relaxation};
 use std::alloc::Global;
 
-/// How many units the leaves of all maps may take at once, before they are sought part by part: a region of six lines takes 70 to
-/// 230 where eight times are fixed, of eight lines up to 500.
+/// The units that leaves of all maps may take before they are sought part by part. A region of six lines with
+/// eight times fixed takes 70 to 230, one of eight lines up to 500 (docs/HISTORY.md, "Fixed times, searched at
+/// once before parts").
 const UNITS_AT_ONCE: u64 = 1_000;
 
-/// What becomes of a node.
+/// The result for a node.
 #[derive(Drop)]
 pub(crate) enum Next<'a> {
-    /// Each of its maps costs too much.
+    /// All of its maps cost too much.
     Nothing,
-    /// It is a leaf.
+    /// The node is a leaf.
     Leaf,
-    /// It is one half now, and this is the other one.
+    /// The node is now one half, and this is the other.
     Halves(Node<'a>),
 }
 
-/// Nodes that are to be gone on with.
+/// Nodes to search.
 #[derive(Drop)]
 pub(crate) struct Open<'a> {
-    // Those of all nodes.
+    // The network of all nodes.
     cycles: &'a Cycles<'a>,
-    // The last one comes first.
+    // The last one is searched first.
     nodes: Vec<Node<'a>>,
 }
 
-/// Goes on with a node, unless the search is over. It is a leaf then, and where its maps cost what the floor is at least and one
-/// of them is at hand, and where it cannot be split.
+/// Searches one node, unless the search is over. The node becomes a leaf if the search is over, if its bound
+/// reaches the floor and a map is available, or if it cannot be split.
 fn go_on<'a>(
     alloc: Global,
     node: &mut Node<'a>,
@@ -76,7 +77,7 @@ fn go_on<'a>(
     }
 }
 
-/// Puts both halves on the stack, with the first one on top.
+/// Pushes both halves, the first one on top.
 fn push_halves<'a>(
     nodes: &mut Vec<Node<'a>>,
     first: Node<'a>,
@@ -90,7 +91,7 @@ fn push_halves<'a>(
     Ok(())
 }
 
-/// The node of all maps with these residues, where the walks of one part are looked at, if there is one.
+/// The node of all maps with these residues, with only the walks of one part if one is given.
 pub(crate) fn whole<'a>(
     alloc: Global,
     cycles: &'a Cycles<'a>,
@@ -112,7 +113,7 @@ pub(crate) fn whole<'a>(
 }
 
 impl<'a> Open<'a> {
-    /// The nodes of all maps with these residues in each of some boxes.
+    /// The nodes of all maps with these residues, one for each of the boxes.
     pub(crate) fn at(
         alloc: Global,
         starts: &Starts<'a>,
@@ -139,7 +140,7 @@ impl<'a> Open<'a> {
         Ok(Open { cycles, nodes })
     }
 
-    /// The nodes of leaves that are to be gone on with.
+    /// The nodes of leaves to resume.
     pub(crate) fn again(
         alloc: Global,
         cycles: &'a Cycles<'a>,
@@ -173,8 +174,8 @@ impl<'a> Open<'a> {
     }
 }
 
-/// The leaves of nodes that may have maps below the cap: `most` and one more, and then all that are open, where there are more;
-/// and all that are open where the budget is spent.
+/// The leaves of nodes that may contain maps below the cap. Stops after `most` leaves and one more, or when the
+/// budget is empty, and then adds all open nodes.
 fn leaves_below<'a>(
     alloc: Global,
     stack: Open<'a>,
@@ -202,8 +203,8 @@ fn leaves_below<'a>(
     Ok(leaves)
 }
 
-/// Boxes that have each map with these residues of this cost, where none costs less, or others too: what maps in them cost at
-/// least is told. The walks of one part are looked at, if there is one.
+/// Boxes that contain each map with these residues that costs at most `cost`, with a lower bound on the costs
+/// of all maps with these residues. Only the walks of one part are used if one is given.
 pub(crate) fn leaves_of_part<'a>(
     alloc: Global,
     cycles: &'a Cycles<'a>,
@@ -235,7 +236,8 @@ pub(crate) fn leaves_of_part<'a>(
     Ok(leaves)
 }
 
-/// Few boxes that have each map with these residues of this cost, where none costs less; none where they are not found soon.
+/// A few boxes that contain each map with these residues that costs at most `cost`; none if they are not found
+/// soon, or if some map may cost less.
 pub(crate) fn leaves_at_once<'a>(
     alloc: Global,
     cycles: &'a Cycles<'a>,
@@ -260,8 +262,8 @@ pub(crate) fn leaves_at_once<'a>(
     Ok(Some(leaves))
 }
 
-/// Boxes that have each map with these residues of this cost, where none costs less, and where the nodes have them: few, or
-/// those of all maps; where the budget is spent as many as there are.
+/// Boxes that contain each map with these residues that costs at most `cost`, if the nodes contain these. Too
+/// many leaves are replaced by the root alone, unless the budget ran out.
 pub(crate) fn leaves_of<'a>(
     alloc: Global,
     stack: Open<'a>,

@@ -1,34 +1,34 @@
-//! Which walks and cuts have numbers in common, directly or by others. Nothing of it is relied upon.
+//! Walks and cuts that share variables, directly or by others. No proof relies on it.
 
 use crate::flip::FlipCut;
 use crate::{Cycles, Range, Walk};
 use pesp_base::Memory;
 use std::alloc::Global;
 
-/// The name of no part: that of a number which is in no walk.
+/// The name of no part, for variables in no walk.
 const NO_PART: usize = usize::MAX;
 
-/// Parts of slacks and residues: the numbers of a walk or a cut are in the same one.
+/// Parts of the variables: those of a walk or a cut are in the same part.
 #[derive(Drop)]
 pub(crate) struct Parts {
-    // Those of slacks, by arc.
+    // For each arc the part of its slack.
     pub(crate) arcs: Vec<usize>,
-    // Those of residues, by event.
+    // For each event the part of its residue.
     events: Vec<usize>,
-    // How many names were given.
+    // The number of names given so far.
     count: usize,
 }
 
 /// One of the parts.
 #[derive(Clone, Copy)]
 pub(crate) struct Part<'a> {
-    // All of them.
+    // All parts.
     pub(crate) parts: &'a Parts,
-    // One of theirs, or of none.
+    // The name of this part, or of none.
     pub(crate) name: usize,
 }
 
-/// The slacks of a walk, and the residues at its ends that are not known.
+/// The slacks of a walk, and the residues at its ends that are not fixed.
 fn numbers_of(
     alloc: Global,
     arcs: usize,
@@ -56,7 +56,7 @@ fn numbers_of(
     Ok(numbers)
 }
 
-/// The numbers of a cut.
+/// The variables of a cut.
 fn numbers_of_cut(alloc: Global, cut: &FlipCut) -> Result<Vec<usize>, Memory> {
     let mut numbers = Vec::new(alloc);
     for term in &cut.terms {
@@ -67,7 +67,7 @@ fn numbers_of_cut(alloc: Global, cut: &FlipCut) -> Result<Vec<usize>, Memory> {
     Ok(numbers)
 }
 
-/// Puts one name in the place of another.
+/// Replaces one name by another.
 fn replace(names: &mut [usize], old: usize, new: usize) {
     for name in names.iter_mut() {
         if *name == old {
@@ -76,7 +76,8 @@ fn replace(names: &mut [usize], old: usize, new: usize) {
     }
 }
 
-/// Numbers names anew in the order in which they come: those that are known, and others after them. Tells how many are known then.
+/// Renumbers names in the order of their first occurrence, after the known ones. Returns how many are known
+/// then.
 fn renumber(names: &mut [usize], known: &mut [usize], count: usize) -> usize {
     let mut count = count;
     for name in names.iter_mut() {
@@ -92,7 +93,7 @@ fn renumber(names: &mut [usize], known: &mut [usize], count: usize) -> usize {
 }
 
 impl Parts {
-    /// Those of a network whose events have their residues in these ranges.
+    /// The parts of a network whose events have these ranges of residues.
     pub(crate) fn of(alloc: Global, cycles: &Cycles, residues: &[Range]) -> Result<Parts, Memory> {
         let own = cycles.network().arc_count();
         let Ok(arcs) = vec![in alloc; NO_PART; own] else {
@@ -118,7 +119,7 @@ impl Parts {
         Ok(parts)
     }
 
-    /// Puts these numbers into one part, with all that are in a part with one of them.
+    /// Joins these variables, and all parts that contain one of them, into one part.
     fn join(&mut self, numbers: &[usize]) {
         let name = self.count;
         self.count = self.count.saturating_add(1);
@@ -133,7 +134,7 @@ impl Parts {
         }
     }
 
-    /// Numbers the parts anew, without those that went into others.
+    /// Renumbers the parts without gaps.
     fn rename(&mut self, alloc: Global) -> Result<(), Memory> {
         let Ok(mut known) = vec![in alloc; NO_PART; self.count] else {
             return Err(Memory);
@@ -154,7 +155,7 @@ impl Parts {
         }
     }
 
-    /// The name of the part that a number is in.
+    /// The name of a variable's part.
     fn name(&self, number: usize) -> usize {
         let arcs = self.arcs.len();
         let name = if number < arcs {
@@ -168,14 +169,14 @@ impl Parts {
         }
     }
 
-    /// How many parts there are.
+    /// The number of parts.
     pub(crate) fn count(&self) -> usize {
         self.count
     }
 }
 
 impl<'a> Part<'a> {
-    /// Whether the number is in it.
+    /// Whether the variable is in this part.
     pub(crate) fn has(&self, number: usize) -> bool {
         self.parts.name(number) == self.name
     }

@@ -1,4 +1,4 @@
-//! What is proposed: multipliers, splits and maps, by a tableau of the walks' equations. Nothing of it is relied upon.
+//! Proposals of multipliers, splits and maps, from a tableau of the walks' equations. No proof relies on them.
 
 ghost use Rattle.std.specs.Prelude.{◌≡◌, length};
 
@@ -17,39 +17,41 @@ use pesp_search_simplex::{End, PARTS, Tableau, Term};
 use std::alloc::Global;
 use terms::{are_of, base_of, costs_of, most_of, room_of, terms_of, terms_of_cut};
 
-/// How many entries the tableaus of waiting nodes have together at most: 16 MB. The others of them find theirs anew.
+/// The most entries of the tableaus of waiting nodes together: 16 MB. Other nodes recompute theirs. With all
+/// entries kept, 100 events took 546 MB (docs/HISTORY.md, "First forms").
 const MOST_ENTRIES: usize = 2_097_152;
 
-/// A tableau of the walks' equations: its numbers are the slacks, the residues, and the times of the walks less what
-/// the arcs' lower bounds add up to.
+/// A tableau of the walks' equations. Its variables are the slacks, the residues, and the rounds of the walks
+/// less the sums of their arcs' lower bounds.
 #[derive(Drop)]
 pub(crate) struct Proposer {
-    // A row for each walk, and for each cut.
+    // One row for each walk and each cut.
     tableau: Tableau,
-    // Of each walk that is looked at, what the lower bounds of its arcs add up to.
+    // For each walk the sum of its arcs' lower bounds; none if the walk is left out.
     bases: Vec<Option<i64>>,
-    // Whether some walks are not looked at.
+    // Whether some walks are left out.
     is_part: bool,
-    // After how many walks the cuts come, and how many there are.
+    // The number of walks before the cuts.
     before: usize,
+    // The number of cuts.
     cuts: usize,
-    // How many slacks and residues there are.
+    // The number of slacks and residues.
     numbers: usize,
-    // How many bits after the point multipliers have: so many that sums of the bound fit.
+    // The number of bits after the point of multipliers, so that the sums of the bound fit.
     scale_bits: u32,
-    // How the tableau was left.
+    // The result of the last run.
     end: End,
-    // How many nodes were searched on the way here.
+    // The number of nodes from the root to here.
     depth: usize,
 }
 
 impl Proposer {
-    /// A tableau of a network with these walks.
+    /// The tableau of a network with these walks.
     pub(crate) fn new(alloc: Global, cycles: &Cycles) -> Result<Proposer, Memory> {
         Proposer::of(alloc, cycles, None)
     }
 
-    /// The same, in which the walks and cuts of one part are looked at, if there is one; others may take any times.
+    /// The same with only the walks and cuts of one part, if one is given. The rounds of others are free.
     pub(crate) fn of(
         alloc: Global,
         cycles: &Cycles,
@@ -88,13 +90,13 @@ impl Proposer {
         Ok(proposer)
     }
 
-    /// Takes one walk more.
+    /// Adds a walk.
     pub(crate) fn push(&mut self, alloc: Global, arcs: &[Arc], walk: &Walk) -> Result<(), Memory> {
         let terms = terms_of(alloc, arcs.len(), walk)?;
         self.push_row(&terms, Some(base_of(arcs, walk)))
     }
 
-    /// Takes the terms of a walk, with what the lower bounds of its arcs add up to where it is looked at.
+    /// Adds the terms of a walk, with the sum of its arcs' lower bounds unless it is left out.
     fn push_row(&mut self, terms: &[Term], base: Option<i64>) -> Result<(), Memory> {
         self.tableau.push_row(terms)?;
         if self.bases.push(base).is_err() {
@@ -103,7 +105,7 @@ impl Proposer {
         Ok(())
     }
 
-    /// Takes a cut: a number for what its terms are together.
+    /// Adds a cut: a variable for the sum of its terms.
     pub(crate) fn push_cut(
         &mut self,
         alloc: Global,
@@ -122,7 +124,7 @@ impl Proposer {
         Ok(())
     }
 
-    /// The tableau's number for the time of a walk.
+    /// The tableau's variable for the round of a walk.
     fn number_of(&self, walk: usize) -> usize {
         let own = self.numbers.saturating_add(walk);
         if walk < self.before {
@@ -132,22 +134,22 @@ impl Proposer {
         }
     }
 
-    /// The tableau's number for what the terms of a cut are together.
+    /// The tableau's variable for the sum of a cut's terms.
     fn number_of_cut(&self, cut: usize) -> usize {
         self.numbers.saturating_add(self.before).saturating_add(cut)
     }
 
-    /// Whether the terms of a cut are as little as they may.
+    /// Whether a cut is tight.
     pub(crate) fn is_tight(&self, cut: usize) -> bool {
         !self.tableau.is_basic(self.number_of_cut(cut))
     }
 
-    /// Whether some walks are not looked at.
+    /// Whether some walks are left out.
     pub(crate) fn is_part(&self) -> bool {
         self.is_part
     }
 
-    /// What the tableau says of a slack or a residue, in parts.
+    /// The tableau's value of a slack or a residue, in units of 1 / `PARTS`.
     pub(crate) fn parts(&self, index: usize) -> i64 {
         self.tableau.value(index)
     }
@@ -170,12 +172,13 @@ impl Proposer {
         })
     }
 
-    /// The same once more.
+    /// A copy of the proposer.
     pub(crate) fn copy(&self) -> Result<Proposer, Memory> {
         self.with(self.tableau.copy()?)
     }
 
-    /// The same for the other half of a node, which waits: without entries where those of all that wait may be too many.
+    /// A copy for the other half of a node, which waits: without entries if those of all waiting nodes may be
+    /// too many.
     pub(crate) fn waiting(&self) -> Result<Proposer, Memory> {
         if self.depth.saturating_mul(self.tableau.size()) <= MOST_ENTRIES {
             self.copy()
@@ -184,12 +187,12 @@ impl Proposer {
         }
     }
 
-    /// How many entries a copy takes.
+    /// The number of entries that a copy needs.
     pub(crate) fn size(&self) -> usize {
         self.tableau.size()
     }
 
-    /// Narrows the tableau's ranges to those of the boxes.
+    /// Sets the tableau's ranges to those of the boxes.
     fn enter(&mut self, boxes: &Boxes) {
         for (number, range) in boxes.numbers.iter().enumerate() {
             self.tableau.set_range(number, range.low, range.high);
@@ -204,7 +207,7 @@ impl Proposer {
         }
     }
 
-    /// Works towards the least cost in the boxes, until so much is gone through; tells how much was.
+    /// Minimizes the cost in the boxes within this amount of work, and returns the work done.
     pub(crate) fn solve(&mut self, boxes: &Boxes, cap: u64, most: u64) -> u64 {
         self.depth = self.depth.saturating_add(1);
         let before = self.tableau.work();
@@ -213,12 +216,12 @@ impl Proposer {
         self.tableau.work().saturating_sub(before)
     }
 
-    /// Whether it was left before it came to the least cost.
+    /// Whether the last run stopped before the optimum.
     pub(crate) fn is_spent(&self) -> bool {
         self.end == End::Spent
     }
 
-    /// The least cost, as the tableau has it; the greatest number where it has none.
+    /// The least cost according to the tableau; `u64::MAX` if it is infeasible.
     pub(crate) fn cost(&self) -> u64 {
         match self.end {
             End::Empty => u64::MAX,
@@ -226,7 +229,7 @@ impl Proposer {
         }
     }
 
-    /// The multipliers of the walks and the cuts that tell a bound, and their scale.
+    /// Writes the multipliers of the walks and cuts for a bound, and returns their scale.
     pub(crate) fn write_multipliers(&self, multipliers: &mut [i64]) -> u32
         ensures { length multipliers.new ≡ length multipliers.old }
     {
@@ -252,7 +255,7 @@ impl Proposer {
         }
     }
 
-    /// What the tableau says of a number, as a whole one.
+    /// The tableau's value of a variable, rounded.
     pub(crate) fn number(&self, index: usize) -> i64 {
         self.tableau.value(index).saturating_add(PARTS / 2) / PARTS
     }

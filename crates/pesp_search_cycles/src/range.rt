@@ -5,22 +5,25 @@ ghost use Rattle.pesp_search_cycles.specs.Ranges.{IsHalved, IsIn, IsMultiple, le
 
 use pesp_base::Period;
 
-/// The whole numbers from the one to the other.
+/// The whole numbers from `low` to `high`.
 #[derive(Clone, Copy)]
 pub struct Range {
+    // The least number.
     pub low: i64,
+    // The greatest number; below `low` if the range is empty.
     pub high: i64,
 }
 
-/// What a cut makes of a range.
+/// The two halves of a range.
 #[derive(Clone, Copy)]
 pub(crate) struct Halves {
-    // Each less wide than the range; swapped, the other one is below.
+    // Narrower than the range; after `swapped` it has the greater numbers.
     pub(crate) below: Range,
+    // Narrower than the range, too.
     pub(crate) above: Range,
 }
 
-/// The greatest whole number of steps that is not above.
+/// The greatest multiple of the step that is at most `at`.
 pub(crate) fn whole_below(at: i64, step: u16) -> Option<i64>
     requires { 0 < step }
     ensures whole { IfSome result (IsMultiple step) }
@@ -32,7 +35,7 @@ pub(crate) fn whole_below(at: i64, step: u16) -> Option<i64>
 }
 
 impl Halves {
-    /// The other one first.
+    /// The same halves in the other order.
     pub(crate) fn swapped(self) -> Halves
         ensures { (step : ℕ) (range : Range) → IsHalved step range self → IsHalved step range result }
     {
@@ -44,7 +47,7 @@ impl Halves {
 }
 
 impl Range {
-    /// What a rate times a number of the range is at least, if it fits.
+    /// The least product of the rate and a number of the range, if it fits.
     pub(crate) fn least_product(self, rate: i64) -> Option<i64>
         ensures { IfSome result (λ least. least ≡ least_product rate self) }
     {
@@ -55,7 +58,7 @@ impl Range {
         }
     }
 
-    /// The numbers up to `at` and those from `at` and a step on, where both are fewer.
+    /// The numbers up to `at`, and those from `next` on, if both are fewer.
     fn cut(self, at: i64, next: i64, step: u16) -> Option<Halves>
         requires some { 0 < step }
         requires at { IsMultiple step at }
@@ -87,8 +90,8 @@ impl Range {
         self.cut(self.low, next, 1)
     }
 
-    /// The numbers up to the greatest whole number of steps that is not above `at`, and those from the next one on, where
-    /// both are fewer.
+    /// The numbers up to the greatest multiple of the step that is at most `at`, and those from the next
+    /// multiple on, if both are fewer.
     pub(crate) fn cut_at(self, at: i64, step: u16) -> Option<Halves>
         requires { 0 < step }
         ensures { IfSome result (IsHalved step self) }
@@ -98,7 +101,7 @@ impl Range {
         self.cut(at, next, step)
     }
 
-    /// About half of the steps each, if there are several.
+    /// About half of the multiples of the step each, if there are several.
     pub(crate) fn halved(self, step: u16) -> Option<Halves>
         requires { 0 < step }
         ensures { IfSome result (IsHalved step self) }
@@ -107,7 +110,7 @@ impl Range {
         self.cut_at(self.low.checked_add(half)?, step)
     }
 
-    /// Without the ends that are no whole number of steps.
+    /// The range from its first to its last multiple of the step.
     pub(crate) fn rounded(self, step: u16) -> Option<Range>
         requires { 0 < step }
         ensures inside { IfSome result (λ range. (z : ℤ) → IsMultiple step z → IsIn self z → IsIn range z) }
@@ -118,7 +121,7 @@ impl Range {
         Some(Range { low, high })
     }
 
-    /// The sums of a number of the one and one of the other.
+    /// The sums of a number of each range.
     pub(crate) fn plus(self, other: Range) -> Option<Range>
         ensures inside { IfSome result (λ sum. (y z : ℤ) → IsIn self y → IsIn other z → IsIn sum (y +ℤ z)) }
         ensures narrow { IfSome result (λ sum. width sum ≤ width self + width other) }
@@ -128,7 +131,7 @@ impl Range {
         Some(Range { low, high })
     }
 
-    /// The numbers less than 0 by as much as those of the range are more.
+    /// The negated numbers.
     pub(crate) fn negated(self) -> Option<Range>
         ensures inside { IfSome result (λ range. (z : ℤ) → IsIn self z → IsIn range (neg_ℤ z)) }
         ensures narrow { IfSome result (λ range. width range ≤ width self) }
@@ -138,7 +141,7 @@ impl Range {
         Some(Range { low, high })
     }
 
-    /// The one number of the range, if it is a residue.
+    /// The single number of the range, if it is a residue.
     pub(crate) fn only(self, period: Period) -> Option<u16>
         ensures { IfSome result (λ only. (only < period)
             × ((x : ℕ) → IsIn self (pos x) → x ≡ only)) }
@@ -149,7 +152,7 @@ impl Range {
         Some(self.low as u16)
     }
 
-    /// Those of the range that are below a residue.
+    /// The numbers below a residue.
     pub(crate) fn below(self, residue: u16) -> Range
         ensures { (x : ℕ) → IsIn result (pos x) ↔ (IsIn self (pos x) × (x < residue)) }
     {
@@ -159,7 +162,7 @@ impl Range {
         }
     }
 
-    /// That of the range that is a residue.
+    /// The residue alone, if the range contains it.
     pub(crate) fn at(self, residue: u16) -> Range
         ensures { (x : ℕ) → IsIn result (pos x) ↔ (IsIn self (pos x) × (x ≡ residue)) }
     {
@@ -169,7 +172,7 @@ impl Range {
         }
     }
 
-    /// The numbers that are in both.
+    /// The intersection.
     pub(crate) fn both(self, other: Range) -> Range
         ensures { (z : ℤ) → IsIn result z ↔ (IsIn self z × IsIn other z) }
     {
@@ -179,7 +182,7 @@ impl Range {
         }
     }
 
-    /// Whether the number is in the range.
+    /// Whether the range contains the number.
     pub(crate) fn has(self, number: i64) -> bool
         ensures { MatchBool result (IsIn self number) (IsIn self number → ⊥) }
     {

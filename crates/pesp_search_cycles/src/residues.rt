@@ -1,4 +1,4 @@
-//! The ranges in which the rows of a network have the residues of its events.
+//! Ranges of residues from the domains of a network.
 
 ghost use Rattle.std.specs.Prelude.{◌≡◌, ℕ, List, ◌<◌, ◌≤◌, false, pos, IfOk, IsTrue, length, slice_index_or};
 ghost use Rattle.pesp_search_network.specs.Arcs.{IsMet};
@@ -9,7 +9,7 @@ use pesp_base::Memory;
 use pesp_search_network::Network;
 use std::alloc::Global;
 
-/// From the least residue of a row to its greatest.
+/// The range from the least residue of a domain to its greatest.
 pub(crate) fn row_range(row: &[bool]) -> Range
     requires { length row.now ≤ 1440 }
     ensures { (r : ℕ) → r < length row.now → IsTrue (slice_index_or row.now r false)

@@ -1,4 +1,4 @@
-//! The ranges of the first node, in which all maps with these residues are.
+//! The boxes of the root node, which contain all maps with these residues.
 
 ghost use Rattle.std.specs.Prelude.{◌≡◌, ℕ, List, ◌+◌, ◌<◌, ◌≤◌, pos, ◌+ℤ◌, IfOk, IfSome, IsTrue, length, slice_index, slice_index_or};
 ghost use Rattle.pesp_base.specs.Tensions.{is_met, slack_of};
@@ -14,7 +14,7 @@ use pesp_search_graph::{Arc, Step};
 use pesp_search_network::Network;
 use std::alloc::Global;
 
-/// The times that a step along or against the arc takes at these slacks.
+/// The times of a step along or against the arc at these slacks.
 pub(crate) fn step_range(arc: &Arc, along: bool, slacks: Range) -> Option<Range>
     ensures inside { IfSome result (λ range. (y : ℕ) → IsIn slacks (pos y)
         → IsIn range (signed along (arc.now.span.lower +ℤ pos y))) }
@@ -29,7 +29,7 @@ pub(crate) fn step_range(arc: &Arc, along: bool, slacks: Range) -> Option<Range>
     if along { Some(range) } else { range.negated() }
 }
 
-/// The times that the steps take together where the numbers are in these ranges.
+/// The times of the steps together, for variables in these ranges.
 fn time_range(arcs: &[Arc], numbers: &[Range], steps: &[Step]) -> Option<Range>
     ensures inside { IfSome result (λ range. (zs : List ℕ) → AreIn numbers.now zs
         → IsIn range (times arcs.now zs steps.now)) }
@@ -44,7 +44,7 @@ fn time_range(arcs: &[Arc], numbers: &[Range], steps: &[Step]) -> Option<Range>
     Some(range)
 }
 
-/// The range of the residue of an event.
+/// The range of an event's residue.
 pub(crate) fn residue_range(arcs: &[Arc], numbers: &[Range], event: usize) -> Option<Range>
     ensures { IfSome result (λ range. (zs : List ℕ) → AreIn numbers.now zs
         → IsIn range (residue arcs.now zs event)) }
@@ -54,7 +54,8 @@ pub(crate) fn residue_range(arcs: &[Arc], numbers: &[Range], event: usize) -> Op
     Some(*range)
 }
 
-/// The residue at the first event of a walk less that at its last: 0 where it is closed.
+/// The residue at the first event of a walk less that at its last; 0 if the walk is closed. Counting it twice
+/// made rounds a period too wide (docs/HISTORY.md, "Rounds a period too wide").
 fn ends_range(arcs: &[Arc], numbers: &[Range], walk: &Walk) -> Option<Range>
     ensures inside { IfSome result (λ range. (zs : List ℕ) → AreIn numbers.now zs
         → IsIn range (ends arcs.now zs walk.now)) }
@@ -70,7 +71,7 @@ fn ends_range(arcs: &[Arc], numbers: &[Range], walk: &Walk) -> Option<Range>
     Some(range)
 }
 
-/// The times that a walk takes, with the residue at its first event and less that at its last.
+/// The rounds of a walk.
 fn walk_range(arcs: &[Arc], numbers: &[Range], walk: &Walk) -> Option<Range>
     ensures inside { IfSome result (λ range. (zs : List ℕ) → AreIn numbers.now zs
         → IsIn range (round arcs.now zs walk.now)) }
@@ -83,7 +84,7 @@ fn walk_range(arcs: &[Arc], numbers: &[Range], walk: &Walk) -> Option<Range>
     Some(range)
 }
 
-/// The same of a walk by index, in whole periods.
+/// The same for a walk by index, in whole periods.
 fn round_range(cycles: &Cycles, numbers: &[Range], index: usize) -> Option<Range>
     requires { index < length cycles.now.walks }
     ensures inside { IfSome result (λ range. (xs : List ℕ)
@@ -100,7 +101,7 @@ fn round_range(cycles: &Cycles, numbers: &[Range], index: usize) -> Option<Range
     Some(range)
 }
 
-/// The slacks that an arc can have where it is met.
+/// The slacks of an arc that is met.
 fn span_range(arc: &Arc, period: Period) -> Range
     ensures { (r s : ℕ) → IsTrue (is_met period arc.now.span r s)
         → IsIn result (pos (slack_of period arc.now.span r s)) }
@@ -112,7 +113,7 @@ fn span_range(arc: &Arc, period: Period) -> Range
     }
 }
 
-/// The slack that a loop has, if it is met at all.
+/// The slack of a loop, if it can be met.
 fn loop_range(arc: &Arc, period: Period) -> Range
     ensures { (r : ℕ) → IsTrue (is_met period arc.now.span r r)
         → IsIn result (pos (slack_of period arc.now.span r r)) }
@@ -121,7 +122,7 @@ fn loop_range(arc: &Arc, period: Period) -> Range
     range.at(slack(period, arc.span, 0, 0))
 }
 
-/// The slacks that an arc can have where it is met, and its ends have their residues in these ranges. There may be none.
+/// The slacks of an arc that is met, with these ranges of residues at its ends. There may be none.
 fn slack_range(arc: &Arc, period: Period, from: Range, to: Range) -> Range
     ensures { (r s : ℕ) → IsIn from (pos r) → IsIn to (pos s)
         → IsTrue (is_met period arc.now.span r s)
@@ -134,7 +135,7 @@ fn slack_range(arc: &Arc, period: Period, from: Range, to: Range) -> Range
     }
 }
 
-/// The same of an arc of a network whose events have their residues in these ranges.
+/// The same for an arc of a network whose events have these ranges.
 fn arc_range(arc: &Arc, period: Period, residues: &[Range]) -> Range
     requires from { arc.now.from < length residues.now }
     requires to { arc.now.to < length residues.now }
@@ -174,7 +175,7 @@ fn slack_ranges(alloc: Global, network: &Network, residues: &[Range]) -> Result<
     Ok(ranges)
 }
 
-/// The ranges of all numbers: of the slacks, and then those of the residues.
+/// The ranges of all variables: slacks, then residues.
 fn number_ranges(alloc: Global, network: &Network, residues: &[Range]) -> Result<Vec<Range>, Memory>
     requires { length residues.now ≡ network.now.events }
     ensures long { IfOk result (λ ranges.
@@ -191,7 +192,7 @@ fn number_ranges(alloc: Global, network: &Network, residues: &[Range]) -> Result
     Ok(ranges)
 }
 
-/// The whole periods of each walk, if all fit.
+/// The ranges of all rounds, if they fit.
 fn round_ranges(
     alloc: Global,
     cycles: &Cycles,
@@ -219,7 +220,7 @@ fn round_ranges(
     Ok(Some(ranges))
 }
 
-/// Boxes that have every map that meets each arc and has these residues, and no map with others, if all numbers fit.
+/// Boxes that contain exactly the maps that meet each arc and have these residues, if all numbers fit.
 pub(crate) fn root(
     alloc: Global,
     cycles: &Cycles,

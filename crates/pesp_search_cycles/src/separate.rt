@@ -1,4 +1,4 @@
-//! Which steps of a walk are to be counted, so that its flip cut is one that a tableau does not keep. Any are sound.
+//! The choice of the counted steps of a walk, so that the tableau violates its flip cut. Any choice is valid.
 
 use crate::flip::Flip;
 use crate::proposer::Proposer;
@@ -8,21 +8,23 @@ use pesp_search_graph::Arc;
 use pesp_search_simplex::PARTS;
 use std::alloc::Global;
 
-/// How much is missing to a cut at least, as its greatest rate has it, in parts.
+/// The least violation of a cut, divided by its greatest coefficient: weaker cuts cost a row and gain little.
+/// No trial of this number is recorded.
 const LEAST_MISSING: i64 = PARTS / 8;
 
-/// A step or an end of a walk, as a tableau has it.
+/// A step or an end of a walk in a tableau.
 #[derive(Clone, Copy)]
 struct Seen {
-    // In parts.
+    // Its time, in units of 1 / `PARTS`.
     time: i64,
-    // The least and the greatest time.
+    // Its least time.
     low: i64,
+    // Its greatest time.
     high: i64,
 }
 
 impl Seen {
-    /// A number along or against.
+    /// A step along or against a variable.
     fn of(proposer: &Proposer, numbers: &[Range], number: usize, lower: i64, along: bool) -> Seen {
         let range = match numbers.get(number) {
             Some(range) => *range,
@@ -43,12 +45,12 @@ impl Seen {
         }
     }
 
-    /// How far it is above its least time, in parts.
+    /// The excess over its least time, in units of 1 / `PARTS`.
     fn over(&self) -> i64 {
         self.time.saturating_sub(self.low.saturating_mul(PARTS))
     }
 
-    /// How far it is below its greatest time, in parts.
+    /// The distance to its greatest time, in units of 1 / `PARTS`.
     fn under(&self) -> i64 {
         self.high.saturating_mul(PARTS).saturating_sub(self.time)
     }
@@ -58,24 +60,24 @@ impl Seen {
     }
 }
 
-/// What is counted of a walk.
+/// The sums of a walk for one choice of counted steps.
 #[derive(Clone, Copy)]
 struct Count {
-    // What the steps take together, in parts.
+    // The time of all steps, in units of 1 / `PARTS`.
     time: i64,
-    // How far those that are counted are above their least times, in parts.
+    // The excess of the counted steps over their least times, in units of 1 / `PARTS`.
     over: i64,
-    // Their least times, and the greatest ones of others.
+    // The least times of the counted steps plus the greatest times of others.
     base: i64,
 }
 
 impl Count {
-    /// What is missing to whole periods.
+    /// The distance from `base` to the next multiple of the period.
     fn rest(&self, period: i64) -> i64 {
         self.base.saturating_neg().rem_euclid(period.max(1))
     }
 
-    /// How much is missing to the cut, as its greatest rate has it.
+    /// The violation of the cut, divided by its greatest coefficient.
     fn missing(&self, period: i64) -> i64 {
         let rest = self.rest(period);
         if rest == 0 {
@@ -91,7 +93,7 @@ impl Count {
         least.checked_div(greatest).unwrap_or(0)
     }
 
-    /// With one step counted, or no more.
+    /// The sums after one step is counted, or no longer counted.
     fn turned(self, seen: Seen, is_counted: bool) -> Count {
         if is_counted {
             Count {
@@ -109,7 +111,7 @@ impl Count {
     }
 }
 
-/// What a tableau says of the steps of a walk, and of its ends where they are two.
+/// The steps of a walk in a tableau, and its ends if they differ.
 fn seen_of(
     alloc: Global,
     arcs: &[Arc],
@@ -164,7 +166,9 @@ fn nearest(alloc: Global, all: &[Seen]) -> Result<(Vec<bool>, Count), Memory> {
     Ok((counted, count))
 }
 
-/// The step that is best turned, with what is counted then; none where no other cut is missed by more.
+/// The step whose flip raises the violation most, with the sums after it; none if no flip raises it. Without
+/// these flips, 200 wide events took 1.3 to 1.7 times as long (docs/HISTORY.md, "What the search could do
+/// without").
 fn best_turn(all: &[Seen], counted: &[bool], count: Count, period: i64) -> Option<(usize, Count)> {
     let mut best = None;
     let mut most = count.missing(period);
@@ -182,7 +186,7 @@ fn best_turn(all: &[Seen], counted: &[bool], count: Count, period: i64) -> Optio
     best
 }
 
-/// The flip of a walk that the tableau misses by most, and by how much; none where it misses none.
+/// The flip of a walk with the greatest violation found, and that violation; none if there is none.
 pub(crate) fn separate(
     alloc: Global,
     arcs: &[Arc],

@@ -1,4 +1,4 @@
-//! Searches for the first map of least cost that stand still: where it is, and how far it is settled.
+//! Stopped searches for the first map of least cost, and how many events they have settled.
 
 ghost use Rattle.std.specs.Prelude.{◌≡◌, ℕ, ◌+◌, ◌<◌, ◌≤◌, ◌^◌, List, Some, IfOk, IfSome, IsNone, length};
 ghost use Rattle.pesp_search_least.specs.Order.{EndsUnlessSpent, IsFirstOutcome, IsSettled};
@@ -21,30 +21,33 @@ use pesp_base::Memory;
 use pesp_search_least::{Budget, Candidate, First, first};
 use std::alloc::Global;
 
-/// What is known of where the maps of least cost are.
+/// The boxes that contain the maps of least cost, as far as known.
 #[derive(Drop)]
 pub(crate) enum Known {
-    /// Nothing.
+    /// Nothing is known.
     Nothing,
-    /// In leaves that are to be gone on with.
+    /// Leaves that are still to be searched.
     Open(Leaves),
-    /// In leaves that are gone on with no more.
+    /// Leaves that are complete.
     Closed(Leaves),
 }
 
 /// A search for the first map of least cost.
 #[derive(Drop)]
 pub(crate) struct Settling {
-    // Leaves that are known have all maps of least cost.
+    // If leaves are known, they contain all maps of least cost.
     known: Known,
-    // A map of least cost; none precedes it at one of so many events in front.
+    // A map of least cost; none precedes it at the settled events.
     pub(crate) best: Candidate,
+    // The number of leading events that are settled.
     settled: usize,
-    // So many units the last step spent, and settled no event.
+    // The units of the last step if it settled no event, and else 0.
     in_vain: u64,
 }
 
-/// What a step may spend: what is left, and twice as much as the last one spent in vain.
+/// The budget of a step: the rest, and at least twice the units of a last step without progress. With equal
+/// steps of 20 units, a wide region was not settled after 91,100 of them (docs/HISTORY.md, "Searches that
+/// restarted").
 fn allowance(budget: &Budget, in_vain: u64) -> Budget
     ensures { OnlySpends result.left budget.now.left }
 {
@@ -54,8 +57,9 @@ fn allowance(budget: &Budget, in_vain: u64) -> Budget
     }
 }
 
-/// Boxes that have each map with these residues that costs as much as the candidate, where none costs less; and whether all parts
-/// were searched for them.
+/// Boxes that contain each map with these residues that costs as much as the candidate, if none costs less; and
+/// whether all parts were searched for them. Parts are searched separately, because otherwise each repeats its
+/// nodes for each node of another (docs/HISTORY.md, "The first timetable, in leaves of a second search").
 fn leaves_by_parts<'a>(
     alloc: Global,
     cycles: &'a Cycles<'a>,
@@ -87,7 +91,7 @@ fn leaves_by_parts<'a>(
     Ok((leaves, are_all))
 }
 
-/// The same from leaves that are to be gone on with.
+/// The same from leaves to resume.
 fn leaves_again<'a>(
     alloc: Global,
     cycles: &'a Cycles<'a>,
@@ -106,7 +110,7 @@ fn leaves_again<'a>(
 }
 
 impl Known {
-    /// These leaves, which are to be gone on with where the budget is spent.
+    /// These leaves, to be resumed if the budget is empty.
     fn of(leaves: Leaves, budget: &Budget) -> Known
         ensures known { (N : Net) (cost : ℕ) → AreLeaves N cost leaves → IsKnown N cost result }
         ensures unclosed { IsUnclosed result → budget.now.left ≡ Some 0 }
@@ -118,7 +122,7 @@ impl Known {
         }
     }
 
-    /// Goes on to leaves that are gone on with no more, as far as the budget goes.
+    /// Completes the leaves as far as the budget lasts.
     fn advance<'a>(
         self,
         alloc: Global,
@@ -150,7 +154,7 @@ impl Known {
 }
 
 impl Settling {
-    /// A search from a map of least cost, of which no event is settled.
+    /// A search from a map of least cost, with no event settled.
     pub(crate) fn new(best: Candidate) -> Settling
         ensures settling { (N : Net) → IsLeast (IsCosted N.network) best → best.cost + 1 < 2 ^ 64
             → IsSettling N result }
@@ -164,7 +168,7 @@ impl Settling {
         }
     }
 
-    /// What it tells where it stops, and how it stands then.
+    /// The result of a stop, and the state to resume.
     fn stopped(self) -> Result<(First, Option<Settling>), Memory>
         ensures first { IfOk result (λ r. IsTold self r.0) }
         ensures settling { IfOk result (λ r. r.1 ≡ Some self) }
@@ -176,7 +180,8 @@ impl Settling {
         Ok((told, Some(self)))
     }
 
-    /// The same after a step of so many units, all in vain where no more events are settled than before it.
+    /// The same state after a step of these units, which had no progress if no more events are settled than
+    /// before.
     fn after(self, units: u64, settled_before: usize) -> Settling
         ensures settling { (N : Net) → IsSettling N self → IsSettling N result }
         ensures best { result.best ≡ self.best }
@@ -189,8 +194,8 @@ impl Settling {
         Settling { in_vain, ..self }
     }
 
-    /// Goes on as far as the budget goes: what the search comes to, and where it stops how it stands then. A step of which the last
-    /// one was in vain goes further, so that steps of any size come to the end.
+    /// Continues as long as the budget lasts. Returns the result, and the state to resume if the search stops.
+    /// After a step without progress the next one is longer, so steps of any size reach the end.
     pub(crate) fn advance<'a>(
         self,
         alloc: Global,
@@ -217,7 +222,7 @@ impl Settling {
         }
     }
 
-    /// The same with this budget alone.
+    /// The same with exactly this budget.
     fn go_on<'a>(
         self,
         alloc: Global,

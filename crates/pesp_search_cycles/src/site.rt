@@ -1,4 +1,4 @@
-//! Where flip cuts are sought, and those that the least slacks there do not keep.
+//! Where flip cuts are sought, and those that the optimal slacks there violate.
 
 ghost use Rattle.std.specs.Prelude.{ℕ, List};
 ghost use Rattle.pesp_search_network.specs.Arcs.{IsMet};
@@ -17,35 +17,39 @@ use pesp_search_least::Budget;
 use pesp_search_network::Network;
 use std::alloc::Global;
 
-/// How many narrow cycles are looked at in each.
+/// The most narrow cycles that are tried. Cycles besides the walks count too: without them 200 wide events took
+/// twice as long (docs/HISTORY.md, "What the search could do without"). No trial of this number is recorded.
 const MOST_CANDIDATES: usize = 1_000;
 
-/// How many cuts a round adds at most.
+/// The most cuts that a round adds. More raise the bound faster and make each pivot dearer. No trial of this
+/// number is recorded.
 const MOST_OF_ROUND: usize = 100;
 
-/// Where cuts are sought: at the first node of a network.
+/// Where cuts are sought: at the root node of a network.
 #[derive(Drop)]
 pub(crate) struct Site<'a> {
-    // Of its walks, without cuts.
+    // The network with its walks, without cuts.
     pub(crate) cycles: &'a Cycles<'a>,
     // One for each event.
     pub(crate) residues: &'a [Range],
-    // In which all numbers of a map are.
+    // The ranges of all variables.
     pub(crate) boxes: &'a Boxes,
+    // What is known of the least cost.
     pub(crate) aim: Aim,
     ghost inside: { (xs : List ℕ) → IsMet cycles.now.network xs
         → AreIn boxes.now.numbers.items (numbers_of cycles.now.network xs) },
 }
 
-/// A candidate by index, that of which most is missing first.
+/// A candidate by index; the one with the greatest violation sorts first.
 #[derive(Clone, Copy, PartialEq, Eq, PartialOrd, Ord)]
 struct Rank {
-    // How much is there: below 0.
+    // The negated violation, below 0.
     kept: i64,
+    // The index of the candidate.
     candidate: usize,
 }
 
-/// The walks that are looked at: narrow cycles, where there are not too many.
+/// The walks to try: narrow cycles, if there are not too many.
 pub(crate) fn candidates_of(
     alloc: Global,
     network: &Network,
@@ -76,7 +80,7 @@ pub(crate) fn push_cuts(
     Ok(())
 }
 
-/// The candidates of which the tableau misses cuts, those of which it misses most first.
+/// The candidates whose cuts the tableau violates, the greatest violation first.
 fn ranked(
     alloc: Global,
     site: &Site,
@@ -99,7 +103,7 @@ fn ranked(
     Ok(ranks)
 }
 
-/// The flip of a walk that the tableau misses by most, and by how much.
+/// The flip of a walk with the greatest violation found, and that violation.
 fn separated(
     alloc: Global,
     site: &Site,
@@ -111,7 +115,7 @@ fn separated(
     separate(alloc, arcs, period, &site.boxes.numbers, proposer, walk)
 }
 
-/// Flips of which the tableau misses most.
+/// The flips of the most violated cuts.
 pub(crate) fn missed_by(
     alloc: Global,
     site: &Site,

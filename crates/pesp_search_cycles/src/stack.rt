@@ -1,4 +1,4 @@
-//! Searches for a least map that stand still: their open nodes, and what they have found.
+//! Stopped searches for a map of least cost: their open nodes, and the best map found.
 
 ghost use Rattle.std.specs.Prelude.{◌≡◌, ℕ, List, IfOk, IfSome, IsNone, length};
 ghost use Rattle.pesp_search_least.specs.Expansions.{limit_of};
@@ -17,24 +17,26 @@ use pesp_base::Memory;
 use pesp_search_least::{Budget, Candidate, Limits, Outcome, go_on};
 use std::alloc::Global;
 
-/// What a search is for, and what it has found.
+/// The limits of a search, and the best map found.
 #[derive(Drop)]
 pub(crate) struct Progress {
-    // No map costs less than the floor; those below the cap are wanted.
+    // No map costs less than the floor; maps below the cap are sought.
     pub(crate) limits: Limits,
-    // A map below the cap.
+    // The best map found below the cap.
     pub(crate) best: Option<Candidate>,
 }
 
-/// The open nodes of a search: each map that costs less than the best, or than the cap where there is none, is one of theirs.
+/// The open nodes of a search. Each map that costs less than the best, or than the cap if there is none, is in
+/// one of them.
 #[derive(Drop)]
 pub(crate) struct Stack {
-    // Of the same cycles.
+    // Nodes of one network with its walks and cuts.
     pub(crate) nodes: Vec<Waiting>,
+    // The limits, and the best map found.
     pub(crate) progress: Progress,
 }
 
-/// The best once more, if there is one.
+/// A copy of the best map, if there is one.
 fn copy_of(best: &Option<Candidate>) -> Result<Option<Candidate>, Memory>
     ensures { IfOk result (AreEqualBests best.now) }
 {
@@ -45,7 +47,7 @@ fn copy_of(best: &Option<Candidate>) -> Result<Option<Candidate>, Memory>
 }
 
 impl Progress {
-    /// Only maps that cost less are of use.
+    /// Only maps that cost less are useful.
     pub(crate) fn limit(&self) -> u64
         ensures { result ≡ limit_of self.now.limits.cap self.now.best }
     {
@@ -55,7 +57,7 @@ impl Progress {
         }
     }
 
-    /// What cuts are for.
+    /// What cuts are sought for.
     pub(crate) fn aim(&self) -> Aim {
         Aim {
             best: match &self.best {
@@ -67,7 +69,7 @@ impl Progress {
         }
     }
 
-    /// The same once more.
+    /// A copy.
     pub(crate) fn copy(&self) -> Result<Progress, Memory>
         ensures limits { IfOk result (λ copy. copy.limits ≡ self.now.limits) }
         ensures best { IfOk result (λ copy. AreEqualBests self.now.best copy.best) }
@@ -80,7 +82,7 @@ impl Progress {
 }
 
 impl Stack {
-    /// What its nodes tell of the least cost, apart from what was known before.
+    /// The lower bound of its nodes, without what was known before.
     pub(crate) fn own_bound(&self) -> u64 {
         let mut least = self.progress.limit();
         for node in &self.nodes {
@@ -89,7 +91,7 @@ impl Stack {
         least
     }
 
-    /// A search at its beginning: the node of all maps is open.
+    /// A search that has not started: the root is open.
     pub(crate) fn new<'a>(
         alloc: Global,
         cycles: &'a Cycles<'a>,
@@ -110,7 +112,7 @@ impl Stack {
         Ok(Stack { nodes, progress })
     }
 
-    /// The same for what costs less than another cap, if its nodes have all of that.
+    /// The same search for costs below another cap, if its nodes cover that.
     pub(crate) fn within(self, limits: Limits) -> Option<Stack>
         ensures { (N : Net) → IsStack N self → IsLowerBound (IsCosted N.network) limits.floor
             → IfSome result (λ stack. IsStack N stack × (stack.progress.limits.cap ≡ limits.cap)) }
@@ -130,7 +132,7 @@ impl Stack {
         Some(Stack { nodes, progress })
     }
 
-    /// The same with what another search for the same has found.
+    /// The same search with what another one for the same has found.
     pub(crate) fn knowing(self, other: &Progress) -> Result<Stack, Memory>
         requires { other.now.limits.cap ≡ self.progress.limits.cap }
         ensures stack { (N : Net) → IsStack N self → IsProgress (IsCosted N.network) other.now
@@ -152,7 +154,7 @@ impl Stack {
         Ok(Stack { nodes, progress })
     }
 
-    /// Goes on as far as the budget goes: what the search comes to, and where it stops how it stands then.
+    /// Continues as long as the budget lasts. Returns the result, and the state to resume if the search stops.
     pub(crate) fn advance<'a>(
         self,
         alloc: Global,

@@ -1,4 +1,4 @@
-//! Boxes in which all maps of least cost are, found part by part.
+//! Boxes that contain all maps of least cost, found part by part.
 
 ghost use Rattle.std.specs.Prelude.{◌≡◌, ℕ, ◌+◌, ◌^◌, ◌<◌, ◌≤◌, All, IfOk, IfSome, List, OnOk, length};
 ghost use Rattle.pesp_search_least.specs.Spending.{OnlySpends};
@@ -15,43 +15,44 @@ use pesp_base::Memory;
 use pesp_search_least::Budget;
 use std::alloc::Global;
 
-/// How many units the search of a part may take: where that is not enough, all parts are searched together.
+/// The most units for a part; if they are not enough, all parts are searched together. With 20,000, two wide
+/// regions did not end (docs/HISTORY.md, "Rounds a period too wide").
 const UNITS_OF_PART: u64 = 200_000;
 
-/// How many boxes there are at most.
+/// The most boxes. If a part's boxes would make more, they are not used. No trial of this number is recorded.
 const MOST_STARTS: usize = 64;
 
-/// How many parts are searched at most.
+/// With more parts than this, none is searched separately. No trial of this number is recorded.
 const MOST_PARTS: usize = 256;
 
-/// Boxes of cycles.
+/// Boxes of a network.
 #[derive(Drop)]
 pub(crate) struct Starts<'a> {
-    // Of a whole network.
+    // The whole network.
     pub(crate) cycles: &'a Cycles<'a>,
-    // Of these cycles.
+    // Boxes of this network.
     pub(crate) boxes: Vec<Boxes>,
     ghost fit: { All (AreBoxes cycles.now) boxes.items },
 }
 
-/// A network, and a map of which it is thought that it costs least.
+/// A network, and a map that is taken for one of least cost.
 #[derive(Drop)]
 pub(crate) struct Site<'a> {
-    // Those of the network.
+    // The network with its walks.
     pub(crate) cycles: &'a Cycles<'a>,
     // One for each event.
     pub(crate) residues: &'a [Range],
-    // Any.
+    // Any map.
     pub(crate) map: &'a [u16],
     ghost long: { length residues.now ≡ cycles.now.network.events },
 }
 
-/// What maps cost at least in some parts, and boxes of those that cost as much there.
+/// The least cost in some parts, and boxes of the maps with that cost.
 #[derive(Drop)]
 struct Found {
-    // Of all these parts together.
+    // The sum over these parts.
     cost: u64,
-    // Of the cycles of the site.
+    // Boxes of the site's network.
     boxes: Vec<Boxes>,
 }
 
@@ -71,7 +72,7 @@ impl<'a> Starts<'a> {
         Ok(Starts { cycles, boxes: all })
     }
 
-    /// Puts boxes, narrowed to each of others, after those that there are.
+    /// Appends boxes, narrowed to each of others.
     fn push(&mut self, boxes: &Boxes, others: &[Boxes]) -> Result<(), Memory>
         requires fit { AreBoxes self.old.cycles.now boxes.now }
         requires others { All (AreBoxes self.old.cycles.now) others.now }
@@ -94,7 +95,7 @@ impl<'a> Starts<'a> {
         Ok(())
     }
 
-    /// What is in both, or these, where both would be too many.
+    /// The intersections with others, or these boxes if that would make too many.
     fn and(self, alloc: Global, others: &[Boxes]) -> Result<Starts<'a>, Memory>
         requires others { All (AreBoxes self.cycles.now) others.now }
         ensures cycles { IfOk result (λ starts. starts.cycles.now ≡ self.entry.cycles.now) }
@@ -117,7 +118,7 @@ impl<'a> Starts<'a> {
     }
 }
 
-/// What the map costs in a part, where none costs less there, and the boxes of those that cost as much.
+/// The cost of the map in a part if none costs less there, and the boxes of maps with that cost.
 fn found_in(
     alloc: Global,
     site: &Site,
@@ -154,7 +155,7 @@ fn found_in(
     }))
 }
 
-/// The same of all parts together, with the boxes narrowed to those of each.
+/// The same for all parts together; the boxes are narrowed to those of each part.
 fn found_in_all(
     alloc: Global,
     site: &Site,
@@ -189,7 +190,7 @@ fn found_in_all(
     }))
 }
 
-/// Boxes that have each map with these residues that costs so much, where none costs less.
+/// Boxes that contain each map with these residues of this cost, if none costs less.
 pub(crate) fn starts_of<'a>(
     alloc: Global,
     site: &Site<'a>,

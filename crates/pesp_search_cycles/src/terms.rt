@@ -1,6 +1,7 @@
-//! Sums over the slacks of arcs and the residues of events: a number, and a rate for each of these.
+//! Linear expressions over the slacks of arcs and the residues of events: a constant, and a coefficient for
+//! each variable.
 //!
-//! Where a sum does not fit, `None` is told.
+//! A sum that does not fit gives `None`.
 
 ghost use Rattle.std.specs.Prelude.{◌≡◌, ℕ, List, ◌+◌, ◌*◌, ◌<◌, ◌≤◌, ◌++◌, ◌^◌, pos, ◌*ℤ◌, ◌+ℤ◌, ◌-ℤ◌, ◌≤ℤ◌, All, IfSome, MatchOption, length, slice_index, slice_index_or};
 ghost use Rattle.pesp_search_least.specs.Sums.{IsEmpty, IsLowerBound};
@@ -14,15 +15,16 @@ use crate::flip::{FlipCut, Part};
 use crate::{Cycles, Range, Walk};
 use pesp_search_graph::{Arc, Step};
 
-/// The time of a walk: in which range it is, and how often it is taken.
+/// The round of a walk: its range, and its multiplier.
 #[derive(Clone, Copy)]
 struct Multiple {
-    // Any two.
+    // The range; any.
     range: Range,
+    // The multiplier; any number.
     multiplier: i64,
 }
 
-/// The scale times the weight of an arc, and 0 where there is none.
+/// The scale times the weight of an arc; 0 if there is no arc.
 fn rate(arcs: &[Arc], scale: u32, index: usize) -> i64
     ensures { result ≡ rate_at scale arcs.now index }
 {
@@ -34,8 +36,8 @@ fn rate(arcs: &[Arc], scale: u32, index: usize) -> i64
     }
 }
 
-/// Makes the rate of each arc the scale times its weight, and all others 0, so that the sum is the scale times the
-/// cost.
+/// Sets the coefficient of each arc to the scale times its weight and all others to 0, so that the sum is the
+/// scale times the cost.
 fn weigh(arcs: &[Arc], scale: u32, rates: &mut [i64])
     ensures long { length rates.new ≡ length rates.old }
     ensures each { (k : ℕ) → k < length rates.old
@@ -46,7 +48,7 @@ fn weigh(arcs: &[Arc], scale: u32, rates: &mut [i64])
     }
 }
 
-/// Takes a multiple of a number from the sum.
+/// Subtracts a multiple of a variable from the sum.
 fn take_number(index: usize, multiplier: i64, rates: &mut [i64]) -> Option<()>
     requires { index < length rates.old }
     ensures long { length rates.new ≡ length rates.old }
@@ -58,7 +60,7 @@ fn take_number(index: usize, multiplier: i64, rates: &mut [i64]) -> Option<()>
     Some(())
 }
 
-/// Takes a multiple of the residue at the first event of a walk, less that at its last, from the sum.
+/// Subtracts a multiple of the residue at the first event of a walk, less that at its last, from the sum.
 fn take_ends(arcs: &[Arc], walk: &Walk, multiplier: i64, rates: &mut [i64]) -> Option<()>
     ensures long { length rates.new ≡ length rates.old }
     ensures taken { IfSome result (λ _. (zs : List ℕ) → length zs ≡ length rates.old
@@ -77,7 +79,7 @@ fn take_ends(arcs: &[Arc], walk: &Walk, multiplier: i64, rates: &mut [i64]) -> O
     Some(())
 }
 
-/// Takes a multiple of a step's time from the sum.
+/// Subtracts a multiple of a step's time from the sum.
 fn take_step(arcs: &[Arc], step: Step, multiplier: i64, sum: i64, rates: &mut [i64]) -> Option<i64>
     requires arc { step.arc < length arcs.now }
     requires rates { step.arc < length rates.old }
@@ -98,7 +100,7 @@ fn take_step(arcs: &[Arc], step: Step, multiplier: i64, sum: i64, rates: &mut [i
     Some(less)
 }
 
-/// Takes a multiple of the steps' time from the sum.
+/// Subtracts a multiple of the steps' time from the sum.
 fn take_steps(
     arcs: &[Arc],
     steps: &[Step],
@@ -121,7 +123,7 @@ fn take_steps(
     Some(less)
 }
 
-/// Takes a multiple of a walk's time from the sum, and adds what this is at least.
+/// Subtracts a multiple of a walk's round from the sum, and adds its minimum.
 fn take_walk(
     arcs: &[Arc],
     walk: &Walk,
@@ -141,7 +143,7 @@ fn take_walk(
     Some(less)
 }
 
-/// The same for each walk with its multiplier, from 0.
+/// The same for each walk with its multiplier, from index 0.
 fn take_walks(
     arcs: &[Arc],
     walks: &[Walk],
@@ -167,7 +169,7 @@ fn take_walks(
     Some(less)
 }
 
-/// Takes a multiple of all terms from the sum.
+/// Subtracts a multiple of all terms from the sum.
 fn take_terms(terms: &[Part], multiplier: i64, rates: &mut [i64]) -> Option<()>
     ensures long { length rates.new ≡ length rates.old }
     ensures taken { IfSome result (λ _. (zs : List ℕ) → length zs ≡ length rates.old
@@ -183,7 +185,8 @@ fn take_terms(terms: &[Part], multiplier: i64, rates: &mut [i64]) -> Option<()>
     Some(())
 }
 
-/// Takes a multiple of a cut's terms from the sum, and adds what this is at least: nothing, where it is less than 0 times.
+/// Subtracts a multiple of a cut's terms from the sum, and adds its minimum. A negative multiplier has no
+/// effect.
 fn take_cut(cut: &FlipCut, multiplier: i64, sum: i64, rates: &mut [i64]) -> Option<i64>
     ensures long { length rates.new ≡ length rates.old }
     ensures taken { IfSome result (λ less. (zs : List ℕ) → length zs ≡ length rates.old
@@ -214,7 +217,7 @@ fn take_cuts(cuts: &[FlipCut], multipliers: &[i64], sum: i64, rates: &mut [i64])
     Some(less)
 }
 
-/// What the sum is at least where the numbers are in these ranges.
+/// The minimum of the sum for variables in these ranges.
 fn settle(sum: i64, rates: &[i64], ranges: &[Range]) -> Option<i64>
     requires { length ranges.now ≡ length rates.now }
     ensures { IfSome result (λ least. (ys : List ℕ) → AreIn ranges.now ys
@@ -227,7 +230,7 @@ fn settle(sum: i64, rates: &[i64], ranges: &[Range]) -> Option<i64>
     Some(least)
 }
 
-/// The least cost that times the scale is at least the sum, if there is one that fits.
+/// The least cost whose product with the scale is at least the sum, if it fits.
 fn least_cost(sum: i64, scale: u32) -> Option<u64>
     ensures { MatchOption result
         ((cost : ℕ) → sum ≤ℤ pos (scale * cost) → ⊥)
@@ -242,7 +245,7 @@ fn least_cost(sum: i64, scale: u32) -> Option<u64>
     Some(sum.unsigned_abs().div_ceil(u64::from(scale)))
 }
 
-/// What the scale times the cost is at least where the numbers and the times of the walks are in the boxes.
+/// The minimum of the scale times the cost in the boxes.
 fn least_value(
     cycles: &Cycles,
     boxes: &Boxes,
@@ -270,8 +273,9 @@ fn least_value(
     Some(least)
 }
 
-/// A lower bound of what maps in the boxes cost, by multipliers of walks and cuts and a scale, which may be any; or none,
-/// where these show that there is no map.
+/// A lower bound on the cost of maps in the boxes, from any multipliers of walks and cuts and any scale; none
+/// if these show that there is no map. A sum that does not fit gives 0 (docs/DECISIONS.md, "A search by
+/// cycles").
 pub(crate) fn floor(
     cycles: &Cycles,
     boxes: &Boxes,

@@ -1,29 +1,33 @@
-//! Which turn of a search it is, and how much of it is left.
+//! The turns of a search.
 
 use crate::graph::Basis;
 use pesp_search_least::Budget;
 
-/// How many times as many units as narrow cycles take to be found the cycles of a tree have before them.
+/// The cycles of a tree come first, with this many times the units that finding narrow cycles takes: a share
+/// that does not depend on the limit (docs/DECISIONS.md, "Search"). No trial of this number is recorded.
 const TREE_SHARE: u64 = 4;
 
-/// How many units narrow cycles have at first: a third of a second, in which most networks end.
+/// The units of the first turn by narrow cycles: a third of a second, enough for most networks (some 18 us a
+/// unit: docs/HISTORY.md, "Searches that restarted").
 const FIRST_UNITS: u64 = 20_000;
 
-/// By which part of the longest turn so far the next one is longer of a search whose bound is no worse than the other's,
+/// A search whose bound is no worse than the other's gets a turn longer by this fraction, 1 / 4, than the
+/// longer of both searches' last turns. No trial of this number is recorded.
 const LONGER: u64 = 4;
 
-/// and into how many times shorter ones the turns of the other are cut.
+/// The other search gets this fraction of that turn, 1 / 8: with equal turns a network took twice as long
+/// (docs/HISTORY.md, "Rounds a period too wide").
 const SHORTER: u64 = 8;
 
-/// A turn, of which so much is left. How long it is does not depend on a budget, so that a larger one never does other work as
-/// far as a smaller one goes.
+/// A turn, and how much of it is left. Its length does not depend on a budget, so a search with a larger budget
+/// starts with the same work as one with a smaller budget.
 #[derive(Clone, Copy)]
 pub(crate) struct Turn {
-    // By which cycles is searched.
+    // The cycle basis of this turn.
     pub(crate) basis: Basis,
-    // So many units it was given; none where it goes on to the end.
+    // The units of the turn; none if it is unlimited.
     pub(crate) given: Option<u64>,
-    // So many of them are left.
+    // The units left; none if it is unlimited.
     pub(crate) units: Option<u64>,
 }
 
@@ -40,8 +44,8 @@ impl Turn {
         }
     }
 
-    /// The first one of a search for a least map with this budget, where it takes so many units to find narrow cycles, or where
-    /// there are too many: narrow cycles at once where units are not counted.
+    /// The first turn of a search, if finding narrow cycles takes these units; none means too many cycles.
+    /// Without a limit it uses narrow cycles at once.
     pub(crate) fn first(narrow: Option<u64>, budget: &Budget) -> Turn {
         match (narrow, budget.left) {
             (None, _) => Turn::of(Basis::Tree, None),
@@ -52,17 +56,17 @@ impl Turn {
         }
     }
 
-    /// Whether it goes by the cycles of a tree.
+    /// Whether it uses the cycles of a tree.
     pub(crate) fn is_by_tree(self) -> bool {
         !self.basis.is_narrow()
     }
 
-    /// The first one by narrow cycles.
+    /// The first turn by narrow cycles.
     pub(crate) fn narrow() -> Turn {
         Turn::of(Basis::Narrow, Some(FIRST_UNITS))
     }
 
-    /// The same with nothing left.
+    /// The same turn with nothing left.
     pub(crate) fn ended(self) -> Turn {
         Turn {
             units: Some(0),
@@ -70,12 +74,12 @@ impl Turn {
         }
     }
 
-    /// The same once more.
+    /// The same turn from its start.
     pub(crate) fn again(self) -> Turn {
         Turn::of(self.basis, self.given)
     }
 
-    /// The next one after the longer of two turns, of a search whose bound is worse than the other's, or is not.
+    /// The next turn after the longer of two, for a search whose bound is worse than the other's or not.
     pub(crate) fn after_both(self, other: Turn, is_worse: bool) -> Turn {
         let given = match (self.given, other.given) {
             (Some(one), Some(other)) if is_worse => Some(one.max(other) / SHORTER),
@@ -85,7 +89,7 @@ impl Turn {
         Turn::of(self.basis, given)
     }
 
-    /// The same for more units.
+    /// A longer turn.
     pub(crate) fn longer(self) -> Turn {
         let given = match self.given {
             Some(given) => Some(longer(given)),
@@ -94,7 +98,7 @@ impl Turn {
         Turn::of(self.basis, given)
     }
 
-    /// The same after so many units more.
+    /// The same turn after spending these units.
     pub(crate) fn after(self, units: u64) -> Turn {
         let units = match self.units {
             Some(left) => Some(left.saturating_sub(units)),

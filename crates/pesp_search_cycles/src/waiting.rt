@@ -1,4 +1,4 @@
-//! Nodes that wait, apart from the cycles of which they are.
+//! Waiting nodes, which do not refer to their cycles.
 
 ghost use Rattle.std.specs.Prelude.{◌≡◌, All, IfOk, Some};
 ghost use Rattle.pesp_search_least.specs.Sums.{InSome, IsWithin};
@@ -12,21 +12,21 @@ use crate::proposer::Proposer;
 use pesp_base::Memory;
 use std::alloc::Global;
 
-/// A node of cycles that are kept elsewhere.
+/// A node whose cycles are kept elsewhere.
 #[derive(Drop)]
 pub(crate) struct Waiting {
-    // Of these cycles.
+    // Boxes of these cycles.
     pub(crate) boxes: Boxes,
-    // What its maps cost at least, or none where there is none.
+    // A lower bound on the cost of its maps; none if it contains no map.
     pub(crate) bound: Option<u64>,
-    // Nothing that it says is relied upon.
+    // No proof relies on it.
     pub(crate) proposer: Proposer,
-    // Whether a map that is at hand is polished.
+    // Whether its maps are polished.
     pub(crate) is_polished: bool,
 }
 
 impl Waiting {
-    /// A node of which nothing is known.
+    /// A node without a known bound.
     pub(crate) fn new(boxes: Boxes, proposer: Proposer) -> Waiting
         ensures boxes { result.boxes ≡ boxes }
         ensures bound { result.bound ≡ Some 0 }
@@ -40,7 +40,7 @@ impl Waiting {
     }
 }
 
-/// The same nodes, apart from their cycles, in the other order.
+/// The same nodes without their cycles, in reverse order.
 pub(crate) fn asleep<'a>(
     alloc: Global,
     cycles: &'a Cycles<'a>,
@@ -63,7 +63,7 @@ pub(crate) fn asleep<'a>(
     Ok(waiting)
 }
 
-/// The nodes of these cycles, in the other order.
+/// The nodes of these cycles, in reverse order.
 pub(crate) fn awake<'a>(
     alloc: Global,
     cycles: &'a Cycles<'a>,

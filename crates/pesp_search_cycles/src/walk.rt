@@ -11,9 +11,11 @@ use std::marker::Model;
 /// Steps from one event to another.
 #[derive(Drop)]
 pub struct Walk {
-    // Any: whether they lead from the one event to the other is tested.
+    // The first event; any: whether the steps lead from it to `to` is tested.
     pub(crate) from: usize,
+    // The steps in order; any.
     pub(crate) steps: Vec<Step>,
+    // The last event; any.
     pub(crate) to: usize,
 }
 
@@ -26,14 +28,14 @@ impl Model for Walk {
 }
 
 impl Walk {
-    /// The steps, from the one event to the other.
+    /// The steps from one event to the other.
     pub fn new(from: usize, steps: Vec<Step>, to: usize) -> Walk
         ensures { result ≡ record { from = from; steps = steps.items; to = to } }
     {
         Walk { from, steps, to }
     }
 
-    /// The same walk once more.
+    /// A copy of the walk.
     pub(crate) fn copy(&self) -> Result<Walk, Memory>
         ensures { IfOk result (λ copy. copy ≡ self.now) }
     {
@@ -47,7 +49,7 @@ impl Walk {
         })
     }
 
-    /// Whether the walk leads between so many events, from its first one to its last.
+    /// Whether the walk joins two of the first `events` events, and leads from its first event to its last.
     pub(crate) fn joins(&self, events: usize, arcs: &[Arc]) -> bool
         ensures { result ≡ joins events arcs.now self.now }
     {
@@ -55,7 +57,7 @@ impl Walk {
     }
 }
 
-/// Whether the steps lead from the one event to the other, each from where the one before it ends.
+/// Whether the steps lead from one event to the other, each starting where the one before it ends.
 fn leads_to(arcs: &[Arc], from: usize, steps: &[Step], to: usize) -> bool
     ensures { result ≡ leads arcs.now from steps.now to }
 {
@@ -77,7 +79,7 @@ fn leads_to(arcs: &[Arc], from: usize, steps: &[Step], to: usize) -> bool
     at == to
 }
 
-/// Walks once more.
+/// Copies of walks.
 pub(crate) fn copied(alloc: Global, walks: &[Walk]) -> Result<Vec<Walk>, Memory>
     ensures { IfOk result (λ copy. copy.items ≡ walks.now) }
 {

@@ -1,4 +1,4 @@
-//! Arcs between events by index, and steps along and against them.
+//! Arcs between events by index, and steps along and against arcs.
 #![tactic(auto)]
 
 mod arc;

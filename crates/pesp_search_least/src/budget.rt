@@ -3,29 +3,30 @@
 ghost use Rattle.std.specs.Prelude.{◌≡◌, None, Some, true, ◌↔◌, IsTrue};
 ghost use Rattle.pesp_search_least.specs.Spending.{OnlySpends, after, part_of};
 
-/// Units of work that are left. Each expansion of a node spends one, and a relaxation spends more as it works.
+/// The units of work that are left. Expanding a node spends one; a relaxation may spend more.
 #[derive(Drop)]
 pub struct Budget {
-    // None where there is no limit.
+    // None if there is no limit.
     pub left: Option<u64>,
 }
 
 impl Budget {
-    /// No limit.
+    /// A budget without a limit.
     pub fn unlimited() -> Budget
         ensures { result.left ≡ None }
     {
         Budget { left: None }
     }
 
-    /// So many units.
+    /// A budget of this number of units.
     pub fn of(units: u64) -> Budget
         ensures { result.left ≡ Some units }
     {
         Budget { left: Some(units) }
     }
 
-    /// So many units of it, or all that are left: what is done with them is still to be spent.
+    /// At most this number of units of the budget, as a budget of its own. The caller still has to spend them
+    /// here.
     pub fn part(&self, units: u64) -> Budget
         ensures { result.left ≡ Some (part_of self.now.left units) }
     {
@@ -36,14 +37,14 @@ impl Budget {
         Budget { left: Some(part) }
     }
 
-    /// Whether nothing is left.
+    /// Whether no unit is left.
     pub fn is_spent(&self) -> bool
         ensures { IsTrue result ↔ (self.now.left ≡ Some 0) }
     {
         self.left == Some(0)
     }
 
-    /// Spends so many units, or all that are left.
+    /// Spends this number of units, or all that are left.
     pub fn spend(&mut self, units: u64)
         ensures left { self.new.left ≡ after self.old.left units }
         ensures spends { OnlySpends self.old.left self.new.left }

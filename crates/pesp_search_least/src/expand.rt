@@ -9,9 +9,9 @@ use crate::{Budget, Relaxation, Split};
 use pesp_base::Memory;
 use std::alloc::Global;
 
-/// Tightens a node, asks it for a candidate, and splits it where its bound is below the limit.
+/// Tightens a node, asks it for a candidate, and splits it if its bound is below the limit.
 ///
-/// The node is then the half to be gone into first, and the other one is handed out.
+/// After a split the node is the half to search first; the other half is returned.
 pub(crate) fn expand<R: Relaxation>(
     alloc: Global,
     node: &mut R,

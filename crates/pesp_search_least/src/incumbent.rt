@@ -1,21 +1,21 @@
-//! The best that a search has found.
+//! The incumbent: the best candidate found so far.
 
 ghost use Rattle.std.specs.Prelude.{◌≡◌, ◌≤◌, ◌<◌, Some};
 ghost use Rattle.pesp_search_least.specs.Expansions.{IsKept, limit_of, outcome_of};
 
 use crate::{Candidate, Outcome};
 
-/// The best that was found below a cap.
+/// The best candidate found below a cap.
 #[derive(Drop)]
 pub(crate) struct Incumbent {
-    // The best costs less.
+    // `best` costs less than this.
     pub(crate) cap: u64,
     // A map of the root, with its sum.
     pub(crate) best: Option<Candidate>,
 }
 
 impl Incumbent {
-    /// What was found before.
+    /// An incumbent with what was known before the search.
     pub(crate) fn new(cap: u64, best: Option<Candidate>) -> Incumbent
         ensures cap { result.cap ≡ cap }
         ensures best { result.best ≡ best }
@@ -23,7 +23,7 @@ impl Incumbent {
         Incumbent { cap, best }
     }
 
-    /// Only sums below this are of use: the cost of the best, or the cap where there is none.
+    /// The cost of the best candidate, or the cap if there is none. Only sums below it are useful.
     pub(crate) fn limit(&self) -> u64
         ensures { result ≡ limit_of self.now.cap self.now.best }
     {
@@ -33,7 +33,7 @@ impl Incumbent {
         }
     }
 
-    /// Keeps a candidate whose cost is below the limit.
+    /// Keeps a candidate that costs less than the limit.
     pub(crate) fn keep(&mut self, candidate: Candidate)
         ensures cap { self.new.cap ≡ self.old.cap }
         ensures kept { IsKept self.old.cap candidate self.old.best self.new.best }
@@ -43,7 +43,7 @@ impl Incumbent {
         }
     }
 
-    /// The outcome where every sum below the limit was gone through.
+    /// The outcome once every sum below the limit has been searched.
     pub(crate) fn outcome(self) -> Outcome
         ensures { result ≡ outcome_of self.best }
     {

@@ -1,4 +1,4 @@
-//! Branch and bound over any relaxation: a map of least sum, and the first one of that sum.
+//! Branch and bound over any relaxation: a map of least sum, and the first such map.
 #![tactic(auto)]
 
 mod budget;

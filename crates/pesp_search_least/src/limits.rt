@@ -1,10 +1,10 @@
-//! Which sums a search is for.
+//! The sums that a search looks for.
 
-/// What is known of the sums before a search, and which are wanted.
+/// A known lower bound on all sums, and the cap below which sums are looked for.
 #[derive(Clone, Copy)]
 pub struct Limits {
-    /// No sum is below it.
+    /// No sum is below this.
     pub floor: u64,
-    /// Sums below it are wanted.
+    /// Only sums below this are looked for.
     pub cap: u64,
 }

@@ -1,4 +1,5 @@
-//! The first map of least sum: event by event ascending, the least residue that some map of this sum has there.
+//! The first map of least sum. Events are settled in ascending order, each at the least residue that some map
+//! of least sum has there.
 
 ghost use Rattle.std.specs.Prelude.{◌≡◌, ◌+◌, ◌<◌, ◌≤◌, ◌^◌, ℕ, true, false, Some, IfOk};
 ghost use Rattle.pesp_search_least.specs.Order.{EndsUnlessSpent, IsFirstAt, IsFirstOutcome, IsSettled, IsSettledWithin};
@@ -9,8 +10,8 @@ use crate::{Budget, Candidate, First, Outcome, Region};
 use pesp_base::Memory;
 use std::alloc::Global;
 
-/// From a map of least sum to one that has, of those with that sum, the least residue at the event; and whether it has, or the
-/// budget was spent.
+/// Turns a map of least sum into one with the least residue at the event among all maps of that sum. The flag
+/// is false if the budget ran out first.
 fn first_at<R: Region>(
     alloc: Global,
     rest: &R,
@@ -39,10 +40,10 @@ fn first_at<R: Region>(
     Ok((best, true))
 }
 
-/// From a map of least sum to the first of those with that sum, where none precedes it at the first `settled` events.
+/// The first map of least sum, given one that no other precedes at the first `settled` events.
 ///
-/// Of two maps that one comes first that has the smaller residue at the first event at which they differ. A search that stops
-/// can be gone on with by what it tells.
+/// Of two maps, the one with the smaller residue at the first event where they differ comes first. A search
+/// that stops returns what a later call needs to resume it.
 pub fn first<R: Region>(
     alloc: Global,
     region: R,
@@ -59,7 +60,7 @@ pub fn first<R: Region>(
     ensures spent { IfOk result (EndsUnlessSpent budget.new.left) }
     ensures budget { OnlySpends budget.old.left budget.new.left }
 {
-    // What agrees with the best up to the event.
+    // The maps that agree with the best one at all events before this one.
     let mut rest = region;
     let events = rest.events();
     'held: for event in 0..settled {

@@ -1,10 +1,11 @@
-//! What can be asked for a least sum below a residue.
+//! A set of maps that can be searched for a least sum below a residue.
 
 use crate::{Budget, Outcome};
 use pesp_base::Memory;
 use std::alloc::Global;
 
-/// A set of maps of events to residues, each with its sum, in which a least one below a residue can be asked for.
+/// A set of maps from events to residues, each with a sum. It can be searched for a map of least sum with a
+/// residue below a given one.
 pub trait Region: Drop {
     ghost use Rattle.std.specs.Prelude.{◌≡◌, ℕ, ◌+◌, ◌<◌, ◌^◌, IfOk, slice_index};
     ghost use Rattle.pesp_search_least.specs.Order.{BelowResidue, IsHeld};
@@ -14,15 +15,15 @@ pub trait Region: Drop {
     /// The sum of each map that has one.
     ghost sums: { Self → Sums };
 
-    /// How many residues each map has.
+    /// The number of residues of each map.
     ghost events: { Self → ℕ };
 
     fn events(&self) -> usize
         ensures events { result ≡ events self.now }
         ensures maps { AreLong (sums self.now) result };
 
-    /// A map of the least sum of all, which is `cost`, with a residue below `residue` at the event; or that there is
-    /// none.
+    /// A map with sum `cost`, the least of all sums, and a residue below `residue` at the event, or the answer
+    /// that there is none.
     fn least_below(
         &self,
         alloc: Global,
@@ -39,7 +40,7 @@ pub trait Region: Drop {
         ensures spent { IfOk result (StopsWhereSpent budget.new.left) }
         ensures budget { OnlySpends budget.old.left budget.new.left };
 
-    /// Leaves only maps that give the event this residue: all others lose their sums.
+    /// Keeps only maps with this residue at the event. All others lose their sums.
     fn hold(&mut self, event: usize, residue: u16)
         requires { event < events self.old }
         ensures held { IsHeld event residue (sums self.old) (sums self.new) }

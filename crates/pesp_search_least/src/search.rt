@@ -12,7 +12,7 @@ use crate::{Budget, Candidate, Limits, Outcome, Relaxation};
 use pesp_base::Memory;
 use std::alloc::Global;
 
-/// A lower bound on the sums of a node, or the limit where that is less.
+/// A lower bound on the sums of a node, or the limit if that is smaller.
 fn bound_of<R: Relaxation>(node: &R, limit: u64) -> u64
     ensures bound { IsLowerBound (R.sums node.now) result }
     ensures within { result ≤ limit }
@@ -23,7 +23,7 @@ fn bound_of<R: Relaxation>(node: &R, limit: u64) -> u64
     }
 }
 
-/// The least of the limit and of the bounds of these nodes.
+/// The least of the limit and the bounds of these nodes.
 fn lowest<R: Relaxation>(nodes: &[R], limit: u64) -> u64
     ensures bound { IsLowerBound (InSome R.sums nodes.now) result }
     ensures within { result ≤ limit }
@@ -35,7 +35,7 @@ fn lowest<R: Relaxation>(nodes: &[R], limit: u64) -> u64
     lower_bound
 }
 
-/// Puts both halves on the stack, with the first one on top.
+/// Pushes both halves, the first one on top.
 fn push_halves<R: Drop>(nodes: &mut Vec<R>, first: R, second: R) -> Result<(), Memory>
     ensures { OnOk result (nodes.new.items ≡ (nodes.old.items ++ second ∷ []) ++ first ∷ []) }
 {
@@ -56,12 +56,12 @@ fn stack_of<R: Drop>(alloc: Global, root: R) -> Result<Vec<R>, Memory>
     Ok(nodes)
 }
 
-/// Goes on with a search in which these nodes are open, the last one first, and this is the best that was found: a map of least
-/// sum of all that they reach, where some sum is below the cap.
+/// Resumes a search with these open nodes, the last one first, and this incumbent: a map of least sum of all
+/// that the nodes contain, if some sum is below the cap.
 ///
-/// Without a limit of the budget it ends with that outcome. With one it stops where nothing is left, and tells what it
-/// found and a lower bound on every sum below the cap; then it can be gone on with by the nodes that it leaves and by what it
-/// found. Every expansion spends a unit.
+/// Without a limit in the budget the search runs to its end. With one it stops when the budget is empty, and
+/// returns the best candidate and a lower bound on every sum below the cap. The remaining nodes and the best
+/// candidate are then enough to resume it. Each expansion spends one unit.
 pub fn go_on<R: Relaxation>(
     alloc: Global,
     nodes: &mut Vec<R>,
@@ -77,7 +77,7 @@ pub fn go_on<R: Relaxation>(
         → All (λ n. R.base n ≡ b) nodes.new.items) }
     ensures spent { IfOk result (StopsWhereSpent budget.new.left) }
     ensures budget { OnlySpends budget.old.left budget.new.left }
-    // Without a unit no node is expanded, and so nothing more is known.
+    // Without a unit no node is expanded, so nothing more is known.
     ensures stops { limits.floor < limit_of limits.cap best → nodes.old.items ≢ [] → budget.old.left ≡ Some 0
         → IfOk result IsStop }
     ensures spends { limits.floor < limit_of limits.cap best → nodes.old.items ≢ [] → budget.old.left ≢ Some 0
@@ -102,10 +102,10 @@ pub fn go_on<R: Relaxation>(
     Ok(incumbent.outcome())
 }
 
-/// A map of least sum, where some sum is below the cap.
+/// A map of least sum, if some sum is below the cap.
 ///
-/// Without a limit of the budget it ends with that outcome. With one it stops where nothing is left, and tells what it
-/// found and a lower bound on every sum below the cap. Every expansion spends a unit.
+/// Without a limit in the budget the search runs to its end. With one it stops when the budget is empty, and
+/// returns the best candidate and a lower bound on every sum below the cap. Each expansion spends one unit.
 pub fn least<R: Relaxation>(
     alloc: Global,
     root: R,
@@ -116,7 +116,7 @@ pub fn least<R: Relaxation>(
     ensures outcome { IfOk result (IsOutcome (R.sums root) limits.cap) }
     ensures spent { IfOk result (StopsWhereSpent budget.new.left) }
     ensures budget { OnlySpends budget.old.left budget.new.left }
-    // Without a unit no node is expanded, and so nothing is known.
+    // Without a unit no node is expanded, so nothing is known.
     ensures stops { limits.floor < limits.cap → budget.old.left ≡ Some 0 → IfOk result IsStop }
     ensures spends { limits.floor < limits.cap → budget.old.left ≢ Some 0
         → OnOk result (SpendsUnit budget.old.left budget.new.left) }

@@ -1,9 +1,9 @@
-//! Numbers that look drawn, and are the same each time.
+//! Pseudorandom numbers, the same in each run, so that a search can be repeated.
 
-/// A generator of numbers by shifts (Marsaglia's xorshift with 64 bits).
+/// A pseudorandom generator (Marsaglia's xorshift with 64 bits).
 #[derive(Clone, Copy)]
 pub(crate) struct Chance {
-    // Never 0, from which no other number comes.
+    // Never 0, which the shifts would keep at 0.
     state: u64,
 }
 
@@ -21,8 +21,8 @@ impl Chance {
         self.state
     }
 
-    /// A number below the bound; 0 where that is 0.
-    pub(crate) fn below(&mut self, bound: usize) -> usize {
+    /// A number below the bound; 0 if the bound is 0.
+    pub(crate) fn number_below(&mut self, bound: usize) -> usize {
         let number = (self.number() >> 33) as usize;
         if bound == 0 { 0 } else { number % bound }
     }

@@ -1,18 +1,19 @@
-//! What a map is charged with.
+//! The objective of a local search.
 
-/// By how much arcs are left, all together, and what their slacks cost: the lesser charge leaves
-/// less, and of two that leave as much costs less.
+/// The violation and the cost of a map. Charges compare by violation first, then by cost.
 ///
-/// What an arc lacks or has too much is counted, whichever is less.
+/// They are two numbers, not a weighted sum, so that great weights fit in 64 bits (docs/DECISIONS.md, "A search
+/// by cycles"). The violation of an arc is the distance of its slack to the nearer end of its span.
 #[derive(Clone, Copy, Debug, PartialEq, Eq, PartialOrd, Ord)]
 pub struct Charge {
-    /// Units of slack outside the arcs' widths.
+    /// The total violation, in units of time.
     pub excess: i64,
-    /// Slacks times weights, those outside the widths too.
+    /// The total of slacks times weights, including slacks outside the spans.
     pub cost: i64,
 }
 
 impl Charge {
+    /// The charge of a feasible map without cost, and the change by no move.
     pub(crate) const NONE: Charge = Charge { excess: 0, cost: 0 };
 
     pub(crate) fn add(&mut self, other: Charge) {
@@ -20,8 +21,8 @@ impl Charge {
         self.cost = self.cost.wrapping_add(other.cost);
     }
 
-    /// By how much it is above another one.
-    pub(crate) fn above(self, other: Charge) -> Charge {
+    /// The difference to another charge.
+    pub(crate) fn difference(self, other: Charge) -> Charge {
         Charge {
             excess: self.excess.wrapping_sub(other.excess),
             cost: self.cost.wrapping_sub(other.cost),

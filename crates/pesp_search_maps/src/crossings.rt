@@ -1,4 +1,4 @@
-//! The arcs across a cut with few of them.
+//! The arcs across a cut, if they are few.
 
 use crate::charge::Charge;
 use crate::links::Link;
@@ -6,26 +6,26 @@ use crate::numbers::append;
 use pesp_base::Memory;
 use std::alloc::Global;
 
-/// An arc across the cut, as its node on the side that is turned sees it.
+/// An arc across the cut, as seen from its node on the side that is turned.
 #[derive(Clone, Copy)]
 struct Crossing {
-    // From the node on the turned side.
+    // The arc, from the node on the turned side.
     link: Link,
-    // How far its node is above the arc's lower end, below the period.
+    // The rise of the arc before the turn, below the period.
     rise: u16,
 }
 
-/// The number, less the period where it is not below it.
-fn folded(period: u16, number: u16) -> u16 {
+/// The number modulo the period, for numbers below twice the period.
+fn reduce(period: u16, number: u16) -> u16 {
     number.min(number.wrapping_sub(period))
 }
 
-/// Arcs across a cut.
+/// The arcs across a cut.
 #[derive(Drop)]
 pub(crate) struct Crossings {
-    // That of the map.
+    // The period of the map.
     period: u16,
-    // Those added since it was cleared.
+    // The arcs added since the last `clear`.
     list: Vec<Crossing>,
 }
 
@@ -49,25 +49,25 @@ impl Crossings {
         append(&mut self.list, Crossing { link: *link, rise })
     }
 
-    /// What they are charged with after a turn.
+    /// The charge of these arcs after a turn.
     pub(crate) fn charge(&self, turn: u16) -> Charge {
         let mut charge = Charge::NONE;
         for crossing in &self.list {
-            let rise = folded(self.period, crossing.rise.wrapping_add(turn));
+            let rise = reduce(self.period, crossing.rise.wrapping_add(turn));
             charge.add(crossing.link.charge(self.period, rise));
         }
         charge
     }
 
-    /// The turn with the least charge, and that above none; 0 where none helps.
+    /// The turn with the least charge, and its change of the charge; 0 if no turn improves it.
     ///
-    /// Some turn with the least charge brings an arc to an end of its slacks.
+    /// Only turns that bring an arc to an end of its span are tried: one of them is always the best.
     pub(crate) fn best(&self) -> (u16, Charge) {
         let none = self.charge(0);
         let (mut best, mut best_turn) = (none, 0);
         for crossing in &self.list {
-            let to_first = folded(self.period, self.period.wrapping_sub(crossing.rise));
-            let to_last = folded(self.period, to_first.wrapping_add(crossing.link.width));
+            let to_first = reduce(self.period, self.period.wrapping_sub(crossing.rise));
+            let to_last = reduce(self.period, to_first.wrapping_add(crossing.link.width));
             for turn in [to_first, to_last] {
                 let charge = self.charge(turn);
                 if charge < best {
@@ -76,6 +76,6 @@ impl Crossings {
                 }
             }
         }
-        (best_turn, best.above(none))
+        (best_turn, best.difference(none))
     }
 }

@@ -1,4 +1,4 @@
-//! The map that a search has.
+//! The current map of a local search.
 
 use crate::charge::Charge;
 use crate::links::{Link, Links};
@@ -7,14 +7,14 @@ use pesp_base::{Memory, Period};
 use pesp_search_graph::Arc;
 use std::alloc::Global;
 
-/// A map with the arcs at its nodes.
+/// A map with the arcs at each of its nodes.
 #[derive(Drop)]
 pub(crate) struct Current {
-    // That of each residue.
+    // The period of the map.
     pub(crate) period: Period,
-    // At as many nodes as there are residues.
+    // The arcs at each node, for as many nodes as there are residues.
     pub(crate) links: Links,
-    // By node, each below the period.
+    // The residue of each node, below the period.
     pub(crate) residues: Vec<u16>,
 }
 
@@ -54,7 +54,7 @@ impl Current {
         )
     }
 
-    /// Lets nodes come so much later, which is below the period.
+    /// Turns the nodes: each gets later by this number, which is below the period.
     pub(crate) fn turn(&mut self, nodes: &[usize], by: u16) {
         let period = self.period.get();
         for node in nodes {
@@ -65,10 +65,10 @@ impl Current {
         }
     }
 
-    /// What the arcs at a node are charged with that go to it.
+    /// The charge of the arcs that end at a node.
     fn charge_at(&self, node: usize) -> Charge {
         let mut charge = Charge::NONE;
-        for link in self.links.of(node) {
+        for link in self.links.links_at(node) {
             if link.is_head {
                 charge.add(link.charge(self.period.get(), self.rise(node, link)));
             }

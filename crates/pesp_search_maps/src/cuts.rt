@@ -1,43 +1,44 @@
-//! A pass through the fundamental cuts of a tree.
+//! A pass over the fundamental cuts of a spanning tree.
 
 use crate::charge::Charge;
 use crate::current::Current;
 use crate::links::Link;
 use crate::neighbourhood::Neighbourhood;
-use crate::numbers::{NONE, append, at, put, refill};
+use crate::numbers::{NONE, append, number_at, put, refill};
 use crate::tree::Tree;
 use crate::turns::Turns;
 use pesp_base::{Memory, Period};
 use std::alloc::Global;
 
-/// An arc between two subtrees, which is no more across the cut where both are one.
+/// An arc between two subtrees. It leaves the cut when both subtrees become parts of one.
 #[derive(Clone, Copy)]
 struct Inner {
-    // The node whose stop was come to later.
+    // The node whose stop was visited later.
     node: usize,
-    // The arc as this node sees it.
+    // The arc, as seen from this node.
     link: Link,
-    // The residue that the node had at the begin.
+    // The residue of the node when the arc was recorded.
     begun: u16,
-    // The next one of those that become inner at the same stop; none after the last one.
+    // The next arc that becomes inner at the same stop; `NONE` after the last one.
     next: usize,
 }
 
-/// What is known while the cuts of a tree are gone through.
+/// The state of a pass over the cuts of a tree.
 ///
-/// Stops are come to from the last one on. What turns of a subtree are charged with is the sum of
-/// what those right below are, less what became inner, and the charges at its first node. So a pass
-/// goes through each arc four times, and at each stop through the turns.
+/// Stops are visited in descending order. The charges of the turns of a subtree are the sum of those of the
+/// subtrees right below, less those of arcs that became inner, plus those at its first node. So a pass visits
+/// each arc four times and all turns once at each stop, instead of all arcs of each cut.
 #[derive(Drop)]
 pub(crate) struct Cuts {
-    // Of the subtrees that wait for the one above, the one last come to at the end.
+    // The turns of the subtrees that wait for the one above; the last visited one is at the end.
     waiting: Vec<Turns>,
-    // Turns to be used again.
+    // Turns to reuse instead of allocating new ones.
     spare: Vec<Turns>,
-    // By stop one above it, not above the subtree that it is part of by now.
+    // For each stop a stop above it, within the subtree that it is part of by now (union-find).
     tops: Vec<usize>,
-    // By stop the last arc that becomes inner there; none where there is none.
+    // For each stop the last arc that becomes inner there; `NONE` if there is none.
     lasts: Vec<usize>,
+    // The arcs recorded in this pass.
     inner: Vec<Inner>,
 }
 
@@ -52,8 +53,8 @@ impl Cuts {
         }
     }
 
-    /// Turns each subtree of the tree by what helps most, and tells by how much the charge rose:
-    /// never above nothing.
+    /// Turns each subtree of the tree by the best turn, and returns the change of the charge, which is never
+    /// above 0.
     pub(crate) fn pass(
         &mut self,
         alloc: Global,
@@ -86,7 +87,7 @@ impl Cuts {
         Ok(())
     }
 
-    /// Begins with a subtree for which nothing is charged yet.
+    /// Starts a subtree without charges.
     fn wait(&mut self, alloc: Global, period: Period) -> Result<(), Memory> {
         let turns = match self.spare.pop() {
             Some(mut turns) => {
@@ -98,7 +99,7 @@ impl Cuts {
         append(&mut self.waiting, turns)
     }
 
-    /// Charges for the arcs at the node of a stop.
+    /// Adds the charges of the arcs at the node of a stop.
     fn come_to(
         &mut self,
         current: &Current,
@@ -108,13 +109,13 @@ impl Cuts {
     ) -> Result<(), Memory> {
         let node = tree.node(stop);
         let end = stop.saturating_add(tree.size(stop));
-        for link in current.links.of(node) {
+        for link in current.links.links_at(node) {
             let other = tree.stop(hood.place(link.other));
             if other > stop && other < end {
                 self.charge(
                     current,
                     link.other,
-                    &link.mirrored(current.period.get(), node),
+                    &link.reverse(current.period.get(), node),
                     -1,
                 );
             } else {
@@ -127,14 +128,15 @@ impl Cuts {
         Ok(())
     }
 
-    /// Charges for a link of a node so many times.
+    /// Adds the charges of a link of a node, multiplied by `times`.
     fn charge(&mut self, current: &Current, node: usize, link: &Link, times: i64) {
         if let Some(turns) = self.waiting.last_mut() {
             turns.add(link, current.rise(node, link), times);
         }
     }
 
-    /// Notes an arc to a subtree that was left where both its nodes come to be in one.
+    /// Records an arc to a subtree that was already left, at the stop where both its nodes come into one
+    /// subtree.
     fn note(
         &mut self,
         current: &Current,
@@ -143,7 +145,7 @@ impl Cuts {
         end: (usize, &Link),
     ) -> Result<(), Memory> {
         let top = self.top_of(other);
-        if tree.above(top) == NONE {
+        if tree.parent(top) == NONE {
             return Ok(());
         }
         let (node, link) = end;
@@ -151,31 +153,31 @@ impl Cuts {
             node,
             link: *link,
             begun: current.residue(node),
-            next: at(&self.lasts, top, NONE),
+            next: number_at(&self.lasts, top, NONE),
         };
         put(&mut self.lasts, top, self.inner.len());
         append(&mut self.inner, inner)
     }
 
-    /// The lowest stop above another one that was not left yet.
+    /// The lowest stop above another one that was not yet left.
     fn top_of(&mut self, stop: usize) -> usize {
         let mut top = stop;
         for _step in 0..self.tops.len() {
-            let above = at(&self.tops, top, top);
+            let above = number_at(&self.tops, top, top);
             if above == top {
                 return top;
             }
-            // The way is half as long from then on.
-            let next = at(&self.tops, above, above);
+            // Path halving: later look-ups take half as many steps.
+            let next = number_at(&self.tops, above, above);
             put(&mut self.tops, top, next);
             top = next;
         }
         top
     }
 
-    /// Takes back the charges for the arcs that become inner at a stop.
+    /// Subtracts the charges of the arcs that become inner at a stop.
     fn join_inner(&mut self, current: &Current, stop: usize) {
-        let mut index = at(&self.lasts, stop, NONE);
+        let mut index = number_at(&self.lasts, stop, NONE);
         for _step in 0..self.inner.len() {
             let Some(inner) = self.inner.get(index) else {
                 return;
@@ -183,8 +185,9 @@ impl Cuts {
             let inner = *inner;
             let period = current.period.get();
             self.charge(current, inner.node, &inner.link, -1);
-            let mirrored = inner.link.mirrored(period, inner.node);
-            // The other node was come to when this one was not turned yet.
+            let mirrored = inner.link.reverse(period, inner.node);
+            // The charge at the other node was added before this one was turned, so it needs the residue of
+            // that time.
             let rise = mirrored.rise(period, current.residue(inner.link.other), inner.begun);
             if let Some(turns) = self.waiting.last_mut() {
                 turns.add(&mirrored, rise, -1);
@@ -193,9 +196,10 @@ impl Cuts {
         }
     }
 
-    /// Turns the subtree of a stop by what helps most; no arc leaves the one where a walk began.
+    /// Turns the subtree of a stop by the best turn. No arc leaves a whole tree, so its first stop is not
+    /// turned.
     fn turn(&mut self, current: &mut Current, tree: &Tree, stop: usize) -> Charge {
-        if tree.above(stop) == NONE {
+        if tree.parent(stop) == NONE {
             return Charge::NONE;
         }
         let Some(turns) = self.waiting.last_mut() else {
@@ -209,9 +213,9 @@ impl Cuts {
         charge
     }
 
-    /// Adds what turns of a subtree are charged with to those of the subtree above.
+    /// Adds the charges of a subtree to those of the subtree above.
     fn leave(&mut self, tree: &Tree, stop: usize) -> Result<(), Memory> {
-        let above = tree.above(stop);
+        let above = tree.parent(stop);
         if above != NONE {
             put(&mut self.tops, stop, above);
         }

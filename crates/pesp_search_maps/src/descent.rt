@@ -1,4 +1,4 @@
-//! Descents: from a map to one that no cut betters.
+//! Descents: from a map to a local optimum of all moves.
 
 use crate::chance::Chance;
 use crate::charge::Charge;
@@ -12,23 +12,25 @@ use crate::turns::Turns;
 use pesp_base::{Memory, Period};
 use std::alloc::Global;
 
-/// How many numbers a link stands for where work is counted.
+/// The work of a link in a pass, as a number of visited numbers. It only affects how fast a budget is spent; no
+/// trial of this number is recorded.
 const LINK_WORK: u64 = 96;
 
-/// How many turns of a node stand for a number.
+/// The number of turns of a node that count as one number of work. It only affects how fast a budget is spent.
 const TURNS_A_NUMBER: u64 = 2;
 
-/// Room for descents.
+/// The work space of descents.
 #[derive(Drop)]
 pub(crate) struct Descent {
     // Chooses the arcs of the tree.
     spanning: Spanning,
-    // Of the last neighbourhood.
+    // The tree of the last neighbourhood.
     tree: Tree,
-    // Those of the tree, charged from the leaves up.
+    // The cuts of that tree, visited from the leaves up.
     cuts: Cuts,
-    // What it has between two nodes is of no use.
+    // The charges of the turns of one node; empty between two nodes.
     turns: Turns,
+    // The arcs at one node, used instead of `turns` if they are few.
     crossings: Crossings,
 }
 
@@ -43,27 +45,27 @@ impl Descent {
         })
     }
 
-    /// What helps most of all turns of a node.
+    /// The best of all turns of a node.
     fn best_of_all(&mut self, current: &Current, node: usize) -> (u16, Charge) {
         self.turns.clear();
-        for link in current.links.of(node) {
+        for link in current.links.links_at(node) {
             self.turns.add(link, current.rise(node, link), 1);
         }
         self.turns.best()
     }
 
-    /// What helps most of the turns of a node that bring an arc to an end of its slacks.
+    /// The best of the turns of a node that bring an arc to an end of its span.
     fn best_of_few(&mut self, current: &Current, node: usize) -> Result<(u16, Charge), Memory> {
         self.crossings.clear();
-        for link in current.links.of(node) {
+        for link in current.links.links_at(node) {
             self.crossings.add(link, current.rise(node, link))?;
         }
         Ok(self.crossings.best())
     }
 
-    /// Turns a node alone by what helps most.
+    /// Turns a single node by its best turn.
     fn turn_node(&mut self, current: &mut Current, node: usize) -> Result<Charge, Memory> {
-        let count = current.links.of(node).len();
+        let count = current.links.links_at(node).len();
         let is_few = count.saturating_mul(count).saturating_mul(8)
             < usize::from(current.period.get());
         let (turn, charge) = if is_few {
@@ -77,8 +79,8 @@ impl Descent {
         Ok(charge)
     }
 
-    /// Turns the fundamental cuts of a tree, and then each node alone; tells by how much the charge
-    /// rose: never above nothing.
+    /// Turns the fundamental cuts of a tree, and if none improves the map then each single node. Returns the
+    /// change of the charge, which is never above 0.
     pub(crate) fn pass(
         &mut self,
         alloc: Global,
@@ -98,14 +100,14 @@ impl Descent {
         Ok(gain)
     }
 
-    /// Through how many numbers a pass goes.
+    /// The work of a pass.
     pub(crate) fn work(&self, current: &Current, hood: &Neighbourhood) -> u64 {
         let links = (self.spanning.count() as u64).saturating_mul(LINK_WORK);
         let turns = u64::from(current.period.get()) / TURNS_A_NUMBER;
         links.saturating_add(turns.saturating_mul(hood.members().len() as u64))
     }
 
-    /// Passes until one does not help; tells by how much the charge rose.
+    /// Repeats passes until one changes nothing, and returns the change of the charge.
     pub(crate) fn go_down(
         &mut self,
         alloc: Global,

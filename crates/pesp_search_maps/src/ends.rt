@@ -1,24 +1,24 @@
-//! Which arcs are at each node.
+//! The arcs at each node.
 
 use pesp_base::Memory;
 use pesp_search_graph::Arc;
 use std::alloc::Global;
 
-/// An arc as one of its nodes sees it.
+/// An arc as seen from one of its nodes.
 #[derive(Clone, Copy)]
 pub(crate) struct End {
-    // Its index.
+    // The index of the arc.
     pub(crate) arc: usize,
-    // The node at its other end.
+    // The node at the other end.
     pub(crate) other: usize,
-    // Whether it goes to this node, and not from it.
+    // Whether the arc leads to this node, not from it.
     pub(crate) is_head: bool,
 }
 
-/// For each node the ends there.
+/// The ends of arcs at each node.
 #[derive(Drop)]
 pub(crate) struct Ends {
-    // By node; each arc is in the lists of both its nodes, a loop in none.
+    // For each node its ends. Each arc is in the lists of both its nodes, a loop in none.
     lists: Vec<Vec<End>>,
 }
 
@@ -69,7 +69,7 @@ impl Ends {
     }
 
     /// The ends at a node.
-    pub(crate) fn of(&self, node: usize) -> &[End] {
+    pub(crate) fn ends_at(&self, node: usize) -> &[End] {
         match self.lists.get(node) {
             Some(list) => list,
             None => &[],

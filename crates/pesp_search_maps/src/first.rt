@@ -1,20 +1,20 @@
-//! A first map, from the arcs alone.
+//! An initial map, from the arcs alone.
 
 use crate::ends::{End, Ends};
 use crate::forest::Forest;
-use crate::residue::{residue_of, turned};
+use crate::residue::{residue_after, residue_of};
 use pesp_base::{Memory, Period};
 use pesp_search_graph::Arc;
 use std::alloc::Global;
 
-/// An arc's place among those that the forest may take: the least comes first.
+/// The rank of an arc for the forest; the least comes first.
 #[derive(Clone, Copy, PartialEq, Eq, PartialOrd, Ord)]
 struct Rank {
-    // The greatest slack.
+    // The greatest slack of the arc.
     width: u16,
-    // By how much the weight is below the greatest number.
+    // `u32::MAX` less the weight, so that heavy arcs come first.
     lightness: u32,
-    // Of two alike the one with the lesser index comes first.
+    // The index of the arc, which breaks ties.
     index: usize,
 }
 
@@ -41,7 +41,7 @@ fn order_of(alloc: Global, period: Period, arcs: &[Arc]) -> Result<Vec<usize>, M
     Ok(order)
 }
 
-/// How long after the other node of an arc this one comes at the least.
+/// The difference of the node's residue to the other node's, with the arc at its lower bound.
 fn distance(arcs: &[Arc], end: End) -> i64 {
     match arcs.get(end.arc) {
         Some(arc) if end.is_head => i64::from(arc.span.lower()),
@@ -50,10 +50,10 @@ fn distance(arcs: &[Arc], end: End) -> i64 {
     }
 }
 
-/// A map in which the arcs of a forest are at their lower ends: narrow ones, and of two alike the
-/// heavier.
+/// A map in which the arcs of a forest are at their lower bounds: narrow arcs first, and of two alike the
+/// heavier one.
 ///
-/// The origin, and the first node of each part without it, is at 0.
+/// The origin, and the first node of each part without it, has residue 0.
 pub fn first_map(
     alloc: Global,
     period: Period,
@@ -71,7 +71,7 @@ pub fn first_map(
         if let Some(end) = place.by {
             let from = residue_of(period, &map, end.other);
             if let Some(old) = map.get_mut(place.node) {
-                *old = turned(period, from, distance(arcs, end));
+                *old = residue_after(period, from, distance(arcs, end));
             }
         }
     }

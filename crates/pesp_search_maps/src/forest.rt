@@ -1,4 +1,4 @@
-//! A forest of arcs, and a walk through it.
+//! A spanning forest, in the order of a depth-first walk.
 
 use crate::ends::{End, Ends};
 use crate::sets::Sets;
@@ -9,25 +9,30 @@ use std::alloc::Global;
 /// A node in the order of the walk.
 #[derive(Clone, Copy)]
 pub(crate) struct Place {
-    // Each node has one place.
+    // The node; each has one place.
     pub(crate) node: usize,
-    // The end at this node of the arc that the walk came by; none where it began.
+    // The end, at this node, of the arc by which the walk came; none where it started.
     pub(crate) by: Option<End>,
-    // How many places there are from here on before the walk goes back by that arc: the arc's side.
+    // The number of places of the subtree from here: the nodes on this side of the arc.
     pub(crate) size: usize,
 }
 
-/// The nodes in the order of a walk through a spanning forest.
+/// The nodes of a spanning forest in the order of a walk.
 #[derive(Drop)]
 pub(crate) struct Forest {
-    // Each node once.
+    // The places, one for each node.
     places: Vec<Place>,
     // For each node the index of its place.
     indices: Vec<Option<usize>>,
 }
 
-/// For each arc whether the forest has it: in this order those that join two parts.
-fn chosen(alloc: Global, nodes: usize, arcs: &[Arc], order: &[usize]) -> Result<Vec<bool>, Memory> {
+/// For each arc whether it is in the forest: those that join two parts, taken in this order.
+fn choose_arcs(
+    alloc: Global,
+    nodes: usize,
+    arcs: &[Arc],
+    order: &[usize],
+) -> Result<Vec<bool>, Memory> {
     let mut sets = Sets::new(alloc, nodes)?;
     let Ok(mut chosen) = vec![in alloc; false; arcs.len()] else {
         return Err(Memory);
@@ -41,7 +46,7 @@ fn chosen(alloc: Global, nodes: usize, arcs: &[Arc], order: &[usize]) -> Result<
 }
 
 impl Forest {
-    /// The forest of the arcs that join two parts, in this order; the walk begins at the origin.
+    /// The forest of the arcs that join two parts, taken in this order. The walk starts at the origin.
     pub(crate) fn new(
         alloc: Global,
         ends: &Ends,
@@ -49,7 +54,7 @@ impl Forest {
         order: &[usize],
         origin: Option<usize>,
     ) -> Result<Forest, Memory> {
-        let chosen = chosen(alloc, ends.nodes(), arcs, order)?;
+        let chosen = choose_arcs(alloc, ends.nodes(), arcs, order)?;
         let Ok(indices) = vec![in alloc; None; ends.nodes()] else {
             return Err(Memory);
         };
@@ -68,7 +73,7 @@ impl Forest {
         Ok(forest)
     }
 
-    /// Walks through the tree of a node, where it was not yet walked through.
+    /// Walks through the tree of a node that was not visited before.
     fn walk_from(
         &mut self,
         node: usize,
@@ -91,7 +96,7 @@ impl Forest {
         Ok(())
     }
 
-    /// Comes to a place, and notes where the walk may go on.
+    /// Adds a place, and pushes the arcs by which the walk may continue.
     fn visit(
         &mut self,
         place: Place,
@@ -109,7 +114,7 @@ impl Forest {
         if let Some(old) = self.indices.get_mut(place.node) {
             *old = Some(index);
         }
-        for end in ends.of(place.node) {
+        for end in ends.ends_at(place.node) {
             if let Some(true) = chosen.get(end.arc) {
                 let next = Place {
                     node: end.other,
@@ -128,7 +133,7 @@ impl Forest {
         Ok(())
     }
 
-    /// Adds the size of each place to that of the one before it, from the last one on.
+    /// Adds the size of each place to that of its parent, in descending order.
     fn find_sizes(&mut self) {
         for index in (0..self.places.len()).rev() {
             let Some(place) = self.places.get(index) else {
@@ -162,7 +167,7 @@ impl Forest {
         &self.places
     }
 
-    /// The places of a side: this one and all after it up to where the walk goes back.
+    /// The places of the subtree that starts at a place.
     pub(crate) fn side(&self, index: usize) -> &[Place] {
         let Some(place) = self.places.get(index) else {
             return &[];

@@ -1,4 +1,4 @@
-//! Kicks: turns of clusters that leave a map which no cut betters.
+//! Kicks: random turns of clusters, to leave a local optimum.
 
 use crate::chance::Chance;
 use crate::charge::Charge;
@@ -8,23 +8,28 @@ use crate::neighbourhood::Neighbourhood;
 use pesp_base::{Memory, Period};
 use std::alloc::Global;
 
-/// How many clusters a kick turns at most, and how many nodes one has.
+/// The most clusters that a kick turns. More lead farther from a good map, fewer leave local optima less often.
+/// No trial of this number is recorded.
 const MOST_CLUSTERS: usize = 3;
 
+/// The most nodes of a cluster. Larger clusters change more of the map at once. No trial of this number is
+/// recorded.
 const MOST_NODES: usize = 60;
 
-/// How many numbers a node or an arc of a cluster stands for where work is counted.
+/// The work of a node or an arc of a cluster, as a number of visited numbers. It only affects how fast a budget
+/// is spent.
 const END_WORK: u64 = 8;
 
-/// Of how many drawn turns the best is made.
+/// The number of random turns of which a kick takes the best: more tries make kicks raise the cost less and
+/// vary less. No trial of this number is recorded.
 const DRAWN_TURNS: usize = 4;
 
-/// Room for kicks.
+/// The work space of kicks.
 #[derive(Drop)]
 pub(crate) struct Kick {
     // The nodes that are turned together.
     cluster: Neighbourhood,
-    // The arcs round the cluster.
+    // The arcs between the cluster and all other nodes.
     crossings: Crossings,
 }
 
@@ -41,8 +46,7 @@ impl Kick {
         })
     }
 
-    /// Turns one to three clusters of the neighbourhood; tells by how much the charge rose, and
-    /// counts the work.
+    /// Turns one to three clusters of the neighbourhood. Returns the change of the charge, and adds the work.
     pub(crate) fn make(
         &mut self,
         current: &mut Current,
@@ -51,11 +55,14 @@ impl Kick {
         work: &mut u64,
     ) -> Result<Charge, Memory> {
         let mut rise = Charge::NONE;
-        let count = chance.below(MOST_CLUSTERS).saturating_add(1);
+        let count = chance.number_below(MOST_CLUSTERS).saturating_add(1);
         let most = (hood.members().len() / 3).max(2).min(MOST_NODES);
         for _cluster in 0..count {
-            let size = chance.below(most).saturating_add(1);
-            let Some(first) = hood.members().get(chance.below(hood.members().len())) else {
+            let size = chance.number_below(most).saturating_add(1);
+            let Some(first) = hood
+                .members()
+                .get(chance.number_below(hood.members().len()))
+            else {
                 return Ok(rise);
             };
             self.cluster
@@ -75,7 +82,7 @@ impl Kick {
     fn find_crossings(&mut self, current: &Current) -> Result<(), Memory> {
         self.crossings.clear();
         for node in self.cluster.members() {
-            for link in current.links.of(*node) {
+            for link in current.links.links_at(*node) {
                 if self.cluster.place(link.other) == 0 {
                     self.crossings.add(link, current.rise(*node, link))?;
                 }
@@ -84,7 +91,7 @@ impl Kick {
         Ok(())
     }
 
-    /// Turns the cluster by the best of a few drawn turns.
+    /// Turns the cluster by the best of a few random turns.
     fn turn(&mut self, current: &mut Current, chance: &mut Chance) -> Charge {
         let period = current.period.get();
         let mut best: Option<(Charge, u16)> = None;
@@ -101,6 +108,6 @@ impl Kick {
         };
         let before = self.crossings.charge(0);
         current.turn(self.cluster.members(), turn);
-        after.above(before)
+        after.difference(before)
     }
 }

@@ -1,6 +1,6 @@
-//! Maps of nodes to residues: made from slacks, and polished.
+//! Maps from nodes to residues: computed from slacks, and improved.
 //!
-//! Nothing is proved of a map but that it can be made safely: what it costs, the caller works out.
+//! Nothing is proved of a map except that computing it is safe. The caller computes its cost.
 #![tactic(auto)]
 
 mod chance;

@@ -1,35 +1,35 @@
-//! The arcs as each node sees them.
+//! The arcs as seen from each node.
 
 use crate::charge::Charge;
 use pesp_base::{Memory, Period};
 use pesp_search_graph::Arc;
 use std::alloc::Global;
 
-/// An arc as one of its nodes sees it.
+/// An arc as seen from one of its nodes.
 ///
-/// Its rise is its slack where it goes to the node, and else the width less the slack, modulo the
-/// period. So the rise is one more where the node comes one later.
+/// Its rise is its slack if it leads to the node, and else the width less the slack, modulo the period. So the
+/// rise grows by one if the node gets one later, at either end.
 #[derive(Clone, Copy)]
 pub(crate) struct Link {
     // The node at the other end.
     pub(crate) other: usize,
-    // The rise with both nodes at 0.
+    // The rise if both nodes have residue 0.
     offset: u16,
-    // The greatest slack, which is also the greatest rise with which the arc is met.
+    // The greatest slack of the arc, and so the greatest rise at which it is met.
     pub(crate) width: u16,
-    // What a unit of slack costs.
+    // The cost of a unit of slack.
     weight: i64,
-    // Whether the arc goes to this node.
+    // Whether the arc leads to this node.
     pub(crate) is_head: bool,
 }
 
-/// The number, less the period where it is not below it.
-fn folded(period: u16, number: u16) -> u16 {
+/// The number modulo the period, for numbers below twice the period.
+fn reduce(period: u16, number: u16) -> u16 {
     number.min(number.wrapping_sub(period))
 }
 
 impl Link {
-    /// The arc as the node sees it that it goes to, or the one that it goes from.
+    /// The arc as seen from its end, or from its start.
     pub(crate) fn new(period: Period, arc: &Arc, is_head: bool) -> Link {
         let length = i64::from(period.get());
         let head = Link {
@@ -42,29 +42,29 @@ impl Link {
         if is_head {
             head
         } else {
-            head.mirrored(period.get(), arc.to)
+            head.reverse(period.get(), arc.to)
         }
     }
 
-    /// The rise with residues of the node and of the other one.
+    /// The rise at the residues of the node and of the other one.
     pub(crate) fn rise(&self, period: u16, own: u16, other: u16) -> u16 {
-        let ahead = folded(period, own.wrapping_add(period).wrapping_sub(other));
-        folded(period, ahead.wrapping_add(self.offset))
+        let ahead = reduce(period, own.wrapping_add(period).wrapping_sub(other));
+        reduce(period, ahead.wrapping_add(self.offset))
     }
 
-    /// The same arc as its other node sees it.
-    pub(crate) fn mirrored(&self, period: u16, node: usize) -> Link {
+    /// The same arc as seen from its other node.
+    pub(crate) fn reverse(&self, period: u16, node: usize) -> Link {
         let offset = self.width.wrapping_add(period).wrapping_sub(self.offset);
         Link {
             other: node,
-            offset: folded(period, offset),
+            offset: reduce(period, offset),
             width: self.width,
             weight: self.weight,
             is_head: !self.is_head,
         }
     }
 
-    /// What the cost rises with the rise.
+    /// The change of the cost for each unit of rise.
     pub(crate) fn rate(&self) -> i64 {
         if self.is_head {
             self.weight
@@ -73,12 +73,12 @@ impl Link {
         }
     }
 
-    /// What the arc is charged with.
+    /// The charge of the arc.
     pub(crate) fn charge(&self, period: u16, rise: u16) -> Charge {
         let slack = if self.is_head {
             rise
         } else {
-            folded(period, self.width.wrapping_add(period).wrapping_sub(rise))
+            reduce(period, self.width.wrapping_add(period).wrapping_sub(rise))
         };
         let over = slack.saturating_sub(self.width);
         Charge {
@@ -93,8 +93,7 @@ impl Link {
     }
 }
 
-/// Whether an arc counts: between two nodes that are there, and not both as wide as can be and
-/// without weight.
+/// Whether an arc matters: it joins two different known nodes, and is not idle (full width and no weight).
 fn counts(period: Period, nodes: usize, arc: &Arc) -> bool {
     let is_open = arc.width(period) == period.get() - 1 && arc.weight.get() == 0;
     arc.from != arc.to && arc.from < nodes && arc.to < nodes && !is_open
@@ -103,9 +102,9 @@ fn counts(period: Period, nodes: usize, arc: &Arc) -> bool {
 /// The links of all nodes.
 #[derive(Drop)]
 pub(crate) struct Links {
-    // By node where its links begin; one more for the end.
+    // For each node the index of its first link, and one entry more for the end.
     starts: Vec<usize>,
-    // Node by node.
+    // The links of all nodes, node by node.
     links: Vec<Link>,
 }
 
@@ -115,7 +114,7 @@ fn add_to(numbers: &mut [usize], index: usize, by: usize) {
     }
 }
 
-/// For each node how many links the nodes before it have, and the sum of all at the end.
+/// For each node the number of links of all nodes before it, and last the number of all links.
 fn starts_of(
     alloc: Global,
     period: Period,
@@ -178,7 +177,7 @@ impl Links {
         Ok(links)
     }
 
-    /// Puts a link after those that its node has.
+    /// Writes a link after those that its node already has.
     fn put(&mut self, ends: &mut [usize], node: usize, link: Link) {
         if let Some(end) = ends.get_mut(node) {
             if let Some(old) = self.links.get_mut(*end) {
@@ -189,7 +188,7 @@ impl Links {
     }
 
     /// The links of a node.
-    pub(crate) fn of(&self, node: usize) -> &[Link] {
+    pub(crate) fn links_at(&self, node: usize) -> &[Link] {
         let Some(start) = self.starts.get(node) else {
             return &[];
         };

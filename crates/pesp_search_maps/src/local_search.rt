@@ -1,4 +1,4 @@
-//! A local search that goes on: the modulo network simplex, iterated.
+//! A local search that can be resumed: the modulo network simplex, iterated with kicks.
 
 use crate::chance::Chance;
 use crate::charge::Charge;
@@ -12,51 +12,62 @@ use pesp_base::{Memory, Period};
 use pesp_search_graph::Arc;
 use std::alloc::Global;
 
-/// Networks with at most so many nodes are searched whole, others by neighbourhoods of so many.
+/// Networks of at most this number of nodes are searched as a whole, others in neighbourhoods of this size.
+/// Larger ones find more with each try and make it slower. No trial of this number is recorded.
 const WHOLE: usize = 400;
 
-/// After how many tries without gain the best map is gone back to.
+/// After this number of tries without a better map, the search returns to the best one. More search farther
+/// from it. No trial of this number is recorded.
 const PATIENCE: u64 = 400;
 
-/// The numbers of a step besides those of its kicks and passes.
+/// The work of a step besides its kicks and passes, so that every step costs something.
 const STEP_WORK: u64 = 64;
 
-/// What a try may cost more, in parts of 10,000 of the cost.
+/// The least `warmth`: how much a try may raise the cost, in 1 / 10,000 of the cost. It doubles at each return
+/// to the best map and then starts again, so no single value has to fit all networks. No trial of this number
+/// and of the next two is recorded.
 const LEAST_WARMTH: i128 = 5;
 
+/// The `warmth` at the start.
 const FIRST_WARMTH: i128 = 20;
 
+/// From this `warmth` on the next return restarts with the least.
 const MOST_WARMTH: i128 = 200;
 
-/// A map with the best one that was found from it.
+/// A map, and the best one found from it.
 #[derive(Drop)]
 pub struct LocalSearch {
-    // Where the search stands, which may be dearer than the best map.
+    // The current map, which may cost more than the best one.
     current: Current,
-    // That of the current map.
+    // The charge of the current map.
     charge: Charge,
+    // The best map, with the origin at residue 0.
     best: Vec<u16>,
-    // That of the best map.
+    // The charge of the best map.
     best_charge: Charge,
     // The nodes at which the current map may differ from the best one.
     changed: Vec<usize>,
+    // The nodes that the current try may move.
     hood: Neighbourhood,
-    // The residues of the members before the try.
+    // The residues of these nodes before the try.
     kept: Vec<u16>,
+    // The work space of kicks.
     kick: Kick,
+    // The work space of descents.
     descent: Descent,
+    // Drives all random choices.
     chance: Chance,
-    // Whether a pass through the whole map did not help.
+    // Whether a pass over the whole map changed nothing.
     is_settled: bool,
-    // Tries since the best map was found, or gone back to.
+    // The tries since the best map was found, or last returned to.
     idle: u64,
-    // What a try may cost more.
+    // How much a try may raise the cost, in 1 / 10,000 of it.
     warmth: i128,
-    // Work beyond what was asked for.
+    // The work beyond what was requested, charged to the next call.
     debt: u64,
 }
 
-/// The map as long as there are nodes, with the origin at 0 and each residue below the period.
+/// The map with a residue below the period for each node, and the origin at 0.
 fn map_from(
     alloc: Global,
     period: Period,
@@ -75,10 +86,10 @@ fn map_from(
 }
 
 impl LocalSearch {
-    /// Begins at a map, which may leave arcs; a node that it does not have is at 0, and a residue
-    /// is taken modulo the period.
+    /// Starts at a map, which may violate arcs. Missing nodes get residue 0, and residues are reduced modulo
+    /// the period.
     ///
-    /// The origin is at 0 from then on. Without one the first node stays where it is.
+    /// The origin is kept at 0, or without an origin the first node at its residue.
     pub fn new(
         alloc: Global,
         period: Period,
@@ -113,21 +124,20 @@ impl LocalSearch {
         })
     }
 
-    /// The best map that was found.
+    /// The best map found.
     pub fn best(&self) -> &[u16] {
         &self.best
     }
 
-    /// What the best map is charged with, but for arcs from a node to itself.
+    /// The charge of the best map, without loops.
     pub fn charge(&self) -> Charge {
         self.best_charge
     }
 
-    /// Goes on until so many numbers were gone through, or nothing is left to gain.
+    /// Continues until this amount of work is done, or nothing is left to improve.
     ///
-    /// What a step goes through beyond that is taken from the next call's work, so the steps are
-    /// the same in pieces of any size. Where memory runs out the best map stays, and the search goes
-    /// on from it.
+    /// Work beyond it is charged to the next call, so the steps do not depend on how the work is divided into
+    /// calls. If memory runs out, the best map is kept and the search restarts from it.
     pub fn advance(&mut self, alloc: Global, work: &mut u64) -> Result<(), Memory> {
         for _step in 0..u64::MAX {
             let paid = self.debt.min(*work);
@@ -150,7 +160,7 @@ impl LocalSearch {
         Ok(())
     }
 
-    /// Begins again at the best map.
+    /// Restarts at the best map.
     fn begin_again(&mut self) {
         for (residue, best) in self.current.residues.iter_mut().zip(&self.best) {
             *residue = *best;
@@ -159,7 +169,7 @@ impl LocalSearch {
         self.charge = self.best_charge;
     }
 
-    /// A pass through the whole map.
+    /// Makes a pass over the whole map.
     fn settle(&mut self, alloc: Global) -> Result<(), Memory> {
         self.hood.take_all()?;
         let gain = self
@@ -175,13 +185,13 @@ impl LocalSearch {
         Ok(())
     }
 
-    /// Chooses the neighbourhood of a try, and keeps its residues.
+    /// Chooses the neighbourhood of a try, and saves its residues.
     fn choose(&mut self) -> Result<(), Memory> {
         let nodes = self.best.len();
         if nodes <= WHOLE {
             self.hood.take_all()?;
         } else {
-            let node = self.chance.below(nodes);
+            let node = self.chance.number_below(nodes);
             self.hood.take_around(&self.current.links, &[node], WHOLE)?;
         }
         self.kept.clear();
@@ -191,7 +201,7 @@ impl LocalSearch {
         Ok(())
     }
 
-    /// A kick and a descent, taken back where that costs too much more.
+    /// Makes a kick and a descent, and undoes both if the cost rises too much.
     fn try_once(&mut self, alloc: Global) -> Result<(), Memory> {
         self.choose()?;
         let mut change = self.kick.make(
@@ -223,9 +233,10 @@ impl LocalSearch {
         Ok(())
     }
 
-    /// Whether a try may be kept.
+    /// Whether a try is kept: it may not raise the violation, and may raise the cost by a random share of the
+    /// allowed amount.
     fn accepts(&mut self, change: Charge) -> bool {
-        let drawn = self.chance.below(1_000) as u64;
+        let drawn = self.chance.number_below(1_000) as u64;
         if change.excess != 0 || self.charge.excess > 0 {
             return change.excess <= 0;
         }
@@ -240,7 +251,7 @@ impl LocalSearch {
         more <= most
     }
 
-    /// Notes which nodes were moved.
+    /// Records the nodes that were moved.
     fn mark(&mut self) -> Result<(), Memory> {
         for node in self.hood.members() {
             append(&mut self.changed, *node)?;
@@ -254,7 +265,7 @@ impl LocalSearch {
         }
     }
 
-    /// Makes the current map the best one, where it is better.
+    /// Makes the current map the best one if it is better.
     fn keep_best(&mut self) {
         if self.charge >= self.best_charge {
             return;
@@ -270,7 +281,7 @@ impl LocalSearch {
         self.changed.clear();
     }
 
-    /// Goes back to the best map.
+    /// Returns to the best map.
     fn go_back(&mut self) {
         for node in &self.changed {
             if let Some(residue) = self.best.get(*node) {

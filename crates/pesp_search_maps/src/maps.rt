@@ -2,35 +2,36 @@
 
 use crate::ends::{End, Ends};
 use crate::forest::Forest;
-use crate::residue::{residue_of, turned};
+use crate::residue::{residue_after, residue_of};
 use pesp_base::{Memory, Period};
 use pesp_search_graph::Arc;
 use std::alloc::Global;
 
-/// How many parts a unit of slack has.
+/// Slacks are given in units of 1 / `UNIT`.
 const UNIT: i64 = 65_536;
 
-/// By how many parts a whole slack may be off.
+/// A slack within this distance of a whole number, 2^-10, counts as whole, to allow for rounding errors. No
+/// trial of this number is recorded.
 const NEAR: i64 = 64;
 
-/// Slacks are wrong by little most often, so a wide arc's weight counts for no more than this
-/// width.
+/// The greatest width that counts for the rank of an arc: slacks are mostly wrong by little, so a wide arc
+/// loses no more than one of this width. No trial of this number is recorded.
 const WIDE: u16 = 8;
 
-/// An arc's place among those that a forest may take: the least comes first.
+/// The rank of an arc for the forest; the least comes first.
 #[derive(Clone, Copy, PartialEq, Eq, PartialOrd, Ord)]
 struct Rank {
-    // An arc of width 0 has its slack.
+    // Whether the arc has a choice of slacks. An arc of width 0 has none, so its slack is surely right.
     is_free: bool,
     // Whether the slack lies between two whole numbers.
     is_between: bool,
-    // By how much what a wrong slack may cost is below the greatest number.
+    // `u64::MAX` less the possible cost of a wrong slack, so that costly arcs come first.
     lightness: u64,
-    // Of two alike the one with the lesser index comes first.
+    // The index of the arc, which breaks ties.
     index: usize,
 }
 
-/// An arc's slack in parts.
+/// The slack of an arc, in units of 1 / `UNIT`.
 fn parts_of(slacks: &[i64], index: usize) -> i64 {
     match slacks.get(index) {
         Some(slack) => (*slack).max(0),
@@ -39,7 +40,7 @@ fn parts_of(slacks: &[i64], index: usize) -> i64 {
 }
 
 /// The nearest whole number of units, at most the width.
-fn rounded(parts: i64, width: u16) -> i64 {
+fn nearest_slack(parts: i64, width: u16) -> i64 {
     (parts.saturating_add(UNIT / 2) / UNIT).min(i64::from(width))
 }
 
@@ -79,12 +80,12 @@ fn order_of(
     Ok(order)
 }
 
-/// How long after the other node of an arc this one comes, where the arc has its slack rounded.
+/// The difference of the node's residue to the other node's, with the arc at its rounded slack.
 fn distance(period: Period, arcs: &[Arc], slacks: &[i64], end: End) -> i64 {
     let Some(arc) = arcs.get(end.arc) else {
         return 0;
     };
-    let slack = rounded(parts_of(slacks, end.arc), arc.width(period));
+    let slack = nearest_slack(parts_of(slacks, end.arc), arc.width(period));
     let tension = slack.wrapping_add(i64::from(arc.span.lower()));
     if end.is_head {
         tension
@@ -93,11 +94,11 @@ fn distance(period: Period, arcs: &[Arc], slacks: &[i64], end: End) -> i64 {
     }
 }
 
-/// Which residue each node gets where its arcs have these slacks, in parts of 65,536.
+/// The map that follows from these slacks, which are in units of 1 / 65,536.
 ///
-/// A forest of arcs is made: those of width 0 first, then those whose slack is whole, and of these
-/// the heavy ones. Along it residues are given with slacks rounded, 0 to the origin and to the
-/// first node of each part without it.
+/// It uses a spanning forest of arcs: those of width 0 first, then those with whole slacks, and of these the
+/// heavy ones. Residues follow along the forest from rounded slacks. The origin, and the first node of each
+/// part without it, has residue 0.
 pub fn map_of(
     alloc: Global,
     period: Period,
@@ -115,7 +116,7 @@ pub fn map_of(
     for place in forest.places() {
         if let Some(end) = place.by {
             let from = residue_of(period, &map, end.other);
-            let residue = turned(period, from, distance(period, arcs, slacks, end));
+            let residue = residue_after(period, from, distance(period, arcs, slacks, end));
             if let Some(old) = map.get_mut(place.node) {
                 *old = residue;
             }

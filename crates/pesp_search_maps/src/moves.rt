@@ -1,41 +1,40 @@
-//! A local search from any map: one side of an arc of a forest is turned while that lowers the
-//! charge.
+//! A local search from any map: it turns one side of a fundamental cut while that lowers the charge.
 //!
-//! These are the moves of the modulo network simplex method (Nachtigall and Opitz, 2008). What is
-//! outside the widths is charged before all costs, so the search also goes from no timetable to
-//! one.
+//! These are the moves of the modulo network simplex method (Nachtigall and Opitz, 2008). Violations come
+//! before cost, so the search also leads from an infeasible map to a feasible one.
 
 use crate::ends::Ends;
 use crate::forest::Forest;
 use crate::links::Link;
-use crate::residue::{residue_of, settle, slack_at, turned};
+use crate::residue::{residue_after, residue_of, settle, slack_at};
 use crate::turns::Turns;
 use pesp_base::{Memory, Period};
 use pesp_search_graph::Arc;
 use std::alloc::Global;
 
-/// What stays the same while a map is polished, and room for the turns of a side.
+/// What stays the same while a map is polished, and the work space of turns.
 #[derive(Drop)]
 struct Moves<'a> {
-    // As they were given.
+    // The period of the map.
     period: Period,
+    // The arcs of the network.
     arcs: &'a [Arc],
-    // Those of the arcs, at as many nodes as the map has.
+    // The ends of the arcs at each node of the map.
     ends: Ends,
-    // The arcs, heavy ones first, and of two alike the narrower.
+    // The arcs, heavy ones first, and of two alike the narrower one.
     order: Vec<usize>,
-    // What it has between two sides is of no use.
+    // The charges of the turns of one side; empty between two sides.
     turns: Turns,
 }
 
-/// The place of an arc in the order: the least comes first.
+/// The rank of an arc; the least comes first.
 #[derive(Clone, Copy, PartialEq, Eq, PartialOrd, Ord)]
 struct Rank {
-    // By how much the weight is below the greatest number.
+    // `u32::MAX` less the weight, so that heavy arcs come first.
     lightness: u32,
-    // The greatest slack.
+    // The greatest slack of the arc.
     width: u16,
-    // Of two alike the one with the lesser index comes first.
+    // The index of the arc, which breaks ties.
     index: usize,
 }
 
@@ -67,7 +66,7 @@ fn spend(work: &mut u64, numbers: usize) {
 }
 
 impl Moves<'_> {
-    /// Whether an arc's slack is 0 or its width.
+    /// Whether the slack of an arc is 0 or its width.
     fn is_at_end(&self, map: &[u16], index: usize) -> bool {
         let Some(arc) = self.arcs.get(index) else {
             return false;
@@ -76,7 +75,9 @@ impl Moves<'_> {
         slack == 0 || slack == arc.width(self.period)
     }
 
-    /// A forest of arcs at an end of their slacks as far as there are such, and of heavy ones.
+    /// A spanning forest of arcs at an end of their spans first, then of heavy ones. Without that preference,
+    /// 200 events with wide spans took two to three times as long (docs/HISTORY.md, "What the search could do
+    /// without").
     fn forest(&self, alloc: Global, map: &[u16], origin: Option<usize>) -> Result<Forest, Memory> {
         let mut order = Vec::new(alloc);
         for is_at_end in [true, false] {
@@ -89,10 +90,10 @@ impl Moves<'_> {
         Forest::new(alloc, &self.ends, self.arcs, &order, origin)
     }
 
-    /// Charges for the arcs across the cut at a node of the side.
+    /// Adds the charges of the arcs across the cut at a node of the side.
     fn cross(&mut self, forest: &Forest, map: &[u16], index: usize, node: usize) {
         let side = forest.side(index).len();
-        for end in self.ends.of(node) {
+        for end in self.ends.ends_at(node) {
             let is_inside = match forest.index_of(end.other) {
                 Some(other) => other >= index && other - index < side,
                 None => true,
@@ -107,7 +108,7 @@ impl Moves<'_> {
         }
     }
 
-    /// Turns a side by what helps most, and tells whether something did.
+    /// Turns a side by its best turn, and returns whether that changed it.
     fn turn_side(
         &mut self,
         forest: &Forest,
@@ -118,7 +119,7 @@ impl Moves<'_> {
         self.turns.clear();
         for place in forest.side(index) {
             self.cross(forest, map, index, place.node);
-            spend(work, self.ends.of(place.node).len().saturating_add(1));
+            spend(work, self.ends.ends_at(place.node).len().saturating_add(1));
         }
         spend(work, usize::from(self.period.get()));
         let (turn, _charge) = self.turns.best();
@@ -127,13 +128,13 @@ impl Moves<'_> {
         }
         for place in forest.side(index) {
             if let Some(residue) = map.get_mut(place.node) {
-                *residue = turned(self.period, *residue, i64::from(turn));
+                *residue = residue_after(self.period, *residue, i64::from(turn));
             }
         }
         true
     }
 
-    /// Tries each side of a forest once, and tells whether something helped.
+    /// Tries each side of a forest once, and returns whether one was turned.
     fn pass(&mut self, forest: &Forest, map: &mut [u16], work: &mut u64) -> bool {
         let mut helped = false;
         for (index, place) in forest.places().iter().enumerate() {
@@ -148,11 +149,10 @@ impl Moves<'_> {
     }
 }
 
-/// Turns sides of the map while that lowers what is outside the arcs' widths, or else what the
-/// slacks cost.
+/// Turns sides of the map while that lowers its violation, or at equal violation its cost.
 ///
-/// The origin stands at 0 at the end, and each residue is below the period. The search ends where
-/// no side helps, or where the work is spent: so many numbers it may go through.
+/// In the result the origin has residue 0 and each residue is below the period. The search ends if no side
+/// helps, or if the work, a number of visited numbers, is spent.
 pub fn polish(
     alloc: Global,
     period: Period,

@@ -1,20 +1,21 @@
-//! Nodes that are moved while all others stay.
+//! Sets of nodes that are moved while all others stay.
 
 use crate::chance::Chance;
 use crate::links::Links;
-use crate::numbers::{NONE, append, at, put};
+use crate::numbers::{NONE, append, number_at, put};
 use pesp_base::Memory;
 use std::alloc::Global;
 
-/// How many links are tried for each node that a cluster gets.
+/// The number of links tried for each node of a cluster: fewer often leave a cluster too small, more take time.
+/// No trial of this number is recorded.
 const TRIES: usize = 6;
 
-/// Some nodes, in the order in which they were found.
+/// A set of nodes, in the order in which they were added.
 #[derive(Drop)]
 pub(crate) struct Neighbourhood {
-    // Each once, and never the one that stays.
+    // The nodes, each once, and never `fixed`.
     members: Vec<usize>,
-    // For each node of the network its index among the members, plus 1; 0 for all others.
+    // For each node of the network its index among the members plus 1; 0 for all others.
     places: Vec<usize>,
     // The node that is never a member.
     fixed: usize,
@@ -36,14 +37,14 @@ impl Neighbourhood {
         &self.members
     }
 
-    /// The member at a place, which counts from 1 on; none at place 0.
+    /// The member at a place, counted from 1; `NONE` at place 0.
     pub(crate) fn member(&self, place: usize) -> usize {
-        at(&self.members, place.wrapping_sub(1), NONE)
+        number_at(&self.members, place.wrapping_sub(1), NONE)
     }
 
-    /// The place of a node: 0 where it stays, and else from 1 on.
+    /// The place of a node, counted from 1; 0 if it is no member.
     pub(crate) fn place(&self, node: usize) -> usize {
-        at(&self.places, node, 0)
+        number_at(&self.places, node, 0)
     }
 
     fn clear(&mut self) {
@@ -53,9 +54,9 @@ impl Neighbourhood {
         self.members.clear();
     }
 
-    /// Adds a node, where it is none yet and may be one.
+    /// Adds a node unless it is a member or `fixed`.
     fn add(&mut self, node: usize) -> Result<(), Memory> {
-        if node == self.fixed || at(&self.places, node, 1) != 0 {
+        if node == self.fixed || number_at(&self.places, node, 1) != 0 {
             return Ok(());
         }
         append(&mut self.members, node)?;
@@ -63,7 +64,7 @@ impl Neighbourhood {
         Ok(())
     }
 
-    /// Takes all nodes that may be moved.
+    /// Makes all nodes but `fixed` members.
     pub(crate) fn take_all(&mut self) -> Result<(), Memory> {
         self.clear();
         for node in 0..self.places.len() {
@@ -73,13 +74,13 @@ impl Neighbourhood {
     }
 
     fn add_neighbours(&mut self, links: &Links, node: usize) -> Result<(), Memory> {
-        for link in links.of(node) {
+        for link in links.links_at(node) {
             self.add(link.other)?;
         }
         Ok(())
     }
 
-    /// Takes the nodes nearest to some of them, so many or a few more.
+    /// Makes the nodes nearest to the given ones members: `size` of them, or a few more.
     pub(crate) fn take_around(
         &mut self,
         links: &Links,
@@ -103,8 +104,7 @@ impl Neighbourhood {
         Ok(())
     }
 
-    /// Takes members of another neighbourhood that are joined to one of them, drawn one after
-    /// another, at most so many.
+    /// Makes a random connected set of another neighbourhood's members the members, at most `size`.
     pub(crate) fn take_cluster(
         &mut self,
         links: &Links,
@@ -119,9 +119,13 @@ impl Neighbourhood {
             if self.members.len() >= size {
                 return Ok(());
             }
-            let from = at(&self.members, chance.below(self.members.len()), first);
-            let links = links.of(from);
-            if let Some(link) = links.get(chance.below(links.len())) {
+            let from = number_at(
+                &self.members,
+                chance.number_below(self.members.len()),
+                first,
+            );
+            let links = links.links_at(from);
+            if let Some(link) = links.get(chance.number_below(links.len())) {
                 if hood.place(link.other) != 0 {
                     self.add(link.other)?;
                 }

@@ -1,12 +1,12 @@
-//! Rows of numbers by index.
+//! Arrays of indices.
 
 use pesp_base::Memory;
 
-/// No index.
+/// The sentinel for no index.
 pub(crate) const NONE: usize = usize::MAX;
 
-/// What stands at an index; the fallback where nothing does.
-pub(crate) fn at(numbers: &[usize], index: usize, fallback: usize) -> usize {
+/// The entry at an index; the fallback if there is none.
+pub(crate) fn number_at(numbers: &[usize], index: usize, fallback: usize) -> usize {
     match numbers.get(index) {
         Some(number) => *number,
         None => fallback,
@@ -19,7 +19,7 @@ pub(crate) fn put(numbers: &mut [usize], index: usize, number: usize) {
     }
 }
 
-/// So many of one number, in the room that a row has.
+/// Fills a vector with copies of a number, and reuses its room.
 pub(crate) fn refill(numbers: &mut Vec<usize>, length: usize, number: usize) -> Result<(), Memory> {
     numbers.clear();
     match numbers.resize(length, number) {

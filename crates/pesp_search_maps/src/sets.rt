@@ -1,20 +1,20 @@
-//! Which nodes are joined.
+//! Disjoint sets of nodes.
 
-use crate::numbers::{append, at, put, refill};
+use crate::numbers::{append, number_at, put, refill};
 use pesp_base::Memory;
 use std::alloc::Global;
 
-/// Sets of nodes, of which two can be joined to one.
+/// Disjoint sets of nodes (union by size).
 #[derive(Drop)]
 pub(crate) struct Sets {
-    // For each node another of its set, nearer to the one that stands for it; that one has itself.
+    // For each node another one of its set, nearer to the representative, which has itself.
     parents: Vec<usize>,
-    // How many nodes a set has, at the one that stands for it.
+    // The size of each set, at its representative.
     sizes: Vec<usize>,
 }
 
 impl Sets {
-    /// A set for each node.
+    /// Puts each node into a set of its own.
     pub(crate) fn new(alloc: Global, nodes: usize) -> Result<Sets, Memory> {
         let mut sets = Sets {
             parents: Vec::new(alloc),
@@ -24,7 +24,7 @@ impl Sets {
         Ok(sets)
     }
 
-    /// Begins again with a set for each of so many nodes.
+    /// Restarts with a set for each of `nodes` nodes.
     pub(crate) fn part(&mut self, nodes: usize) -> Result<(), Memory> {
         refill(&mut self.sizes, nodes, 1)?;
         self.parents.clear();
@@ -34,11 +34,11 @@ impl Sets {
         Ok(())
     }
 
-    /// The node that stands for a node's set.
+    /// The representative of a node's set.
     fn root(&self, node: usize) -> usize {
         let mut root = node;
         for _step in 0..self.parents.len() {
-            let parent = at(&self.parents, root, root);
+            let parent = number_at(&self.parents, root, root);
             if parent == root {
                 return root;
             }
@@ -47,13 +47,16 @@ impl Sets {
         root
     }
 
-    /// Joins the sets of two nodes, and tells whether they were two.
+    /// Joins two sets, and returns whether they were different.
     pub(crate) fn join(&mut self, one: usize, other: usize) -> bool {
         let (one, other) = (self.root(one), self.root(other));
         if one == other {
             return false;
         }
-        let (mine, others) = (at(&self.sizes, one, 0), at(&self.sizes, other, 0));
+        let (mine, others) = (
+            number_at(&self.sizes, one, 0),
+            number_at(&self.sizes, other, 0),
+        );
         let (kept, gone) = if mine >= others {
             (one, other)
         } else {

@@ -1,43 +1,47 @@
-//! Which arcs of a neighbourhood make a spanning tree, with all nodes outside as one.
+//! Spanning trees of a neighbourhood, in which all nodes outside are one.
 
 use crate::chance::Chance;
 use crate::current::Current;
 use crate::neighbourhood::Neighbourhood;
-use crate::numbers::{NONE, append, at, put, refill};
+use crate::numbers::{NONE, append, number_at, put, refill};
 use crate::sets::Sets;
 use pesp_base::Memory;
 use std::alloc::Global;
 
-/// An arc that the tree may have: the least comes first.
+/// An arc that the tree may use; the least comes first.
 #[derive(Clone, Copy, PartialEq, Eq, PartialOrd, Ord)]
 struct Candidate {
     // Whether its slack is neither 0 nor its width.
     is_between: bool,
+    // The greatest slack of the arc.
     width: u16,
+    // A random number that breaks ties, so that each pass has another tree.
     chance: u64,
-    // Its nodes by place in the neighbourhood; 0 is all outside.
+    // Its nodes, by place in the neighbourhood; 0 is all nodes outside.
     one: usize,
+    // The other node, in the same way.
     other: usize,
 }
 
-/// A branch of the tree at one of its nodes.
+/// A branch of the tree, as seen from one of its nodes.
 #[derive(Clone, Copy)]
 struct Branch {
-    // The node at its other end, by place in the neighbourhood.
+    // The node at the other end, by place in the neighbourhood.
     to: usize,
-    // Which branch of the same node comes next; none after the last one.
+    // The index of the next branch of the same node; `NONE` after the last one.
     next: usize,
 }
 
-/// The branches of a tree for each part of a neighbourhood.
+/// The branches of a spanning tree.
 #[derive(Drop)]
 pub(crate) struct Spanning {
-    // The arcs, in the order in which they are taken.
+    // The arcs, in the order in which they are tried.
     candidates: Vec<Candidate>,
-    // Which places the branches join.
+    // The places that the branches join so far.
     sets: Sets,
-    // By place the first of its branches; none where there is none.
+    // For each place its first branch; `NONE` if it has none.
     firsts: Vec<usize>,
+    // The branches, two for each arc of the tree.
     branches: Vec<Branch>,
 }
 
@@ -51,7 +55,7 @@ impl Spanning {
         })
     }
 
-    /// Chooses arcs at the ends of their slacks first, and of these the narrow ones.
+    /// Chooses arcs at an end of their spans first, and of these the narrow ones.
     pub(crate) fn choose(
         &mut self,
         current: &Current,
@@ -66,7 +70,7 @@ impl Spanning {
         self.join(hood.members().len().saturating_add(1))
     }
 
-    /// Each arc between members is gathered at the one that it goes to.
+    /// Collects the arcs at a node; an arc between members is collected only at its end.
     fn gather(
         &mut self,
         current: &Current,
@@ -74,7 +78,7 @@ impl Spanning {
         chance: &mut Chance,
         node: usize,
     ) -> Result<(), Memory> {
-        for link in current.links.of(node) {
+        for link in current.links.links_at(node) {
             let other = hood.place(link.other);
             if link.is_head || other == 0 {
                 let candidate = Candidate {
@@ -105,12 +109,12 @@ impl Spanning {
         Ok(())
     }
 
-    /// The first branch at a place, by index.
+    /// The index of the first branch at a place.
     pub(crate) fn first(&self, place: usize) -> usize {
-        at(&self.firsts, place, NONE)
+        number_at(&self.firsts, place, NONE)
     }
 
-    /// Where a branch leads, and the index of the next one at the same place.
+    /// The other end of a branch, and the index of the next one at the same place.
     pub(crate) fn branch(&self, index: usize) -> Option<(usize, usize)> {
         match self.branches.get(index) {
             Some(branch) => Some((branch.to, branch.next)),
@@ -118,7 +122,7 @@ impl Spanning {
         }
     }
 
-    /// How many arcs there were to choose from.
+    /// The number of arcs to choose from.
     pub(crate) fn count(&self) -> usize {
         self.candidates.len()
     }
@@ -132,7 +136,7 @@ fn branch_off(
 ) -> Result<(), Memory> {
     let branch = Branch {
         to,
-        next: at(firsts, from, NONE),
+        next: number_at(firsts, from, NONE),
     };
     put(firsts, from, branches.len());
     append(branches, branch)

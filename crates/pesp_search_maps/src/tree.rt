@@ -1,35 +1,35 @@
 //! A walk through a spanning tree of a neighbourhood.
 
 use crate::neighbourhood::Neighbourhood;
-use crate::numbers::{NONE, append, at, put, refill};
+use crate::numbers::{NONE, append, number_at, put, refill};
 use crate::spanning::Spanning;
 use pesp_base::Memory;
 use std::alloc::Global;
 
-/// The nodes of a neighbourhood in the order of a walk, with all outside as one where it begins.
+/// The nodes of a neighbourhood in the order of a depth-first walk. All nodes outside are one, where the walk
+/// starts.
 ///
-/// The subtree of a stop is the run of stops from it on, as many as its size. Of the subtrees right
-/// below a stop the greatest is the last one, so few subtrees wait for one another where stops are
-/// gone through from the last one on.
+/// The subtree of a stop is a run of stops that starts with it. Of the subtrees right below a stop the greatest
+/// comes last, so few subtrees wait for another when stops are visited in descending order.
 #[derive(Drop)]
 pub(crate) struct Tree {
     // The places of the neighbourhood, each after the one above it.
     order: Vec<usize>,
-    // By place the one above it; none where a walk begins.
+    // For each place the one above it; `NONE` where a walk starts.
     parents: Vec<usize>,
-    // By place how many there are from it on downwards; 0 where it was not seen.
+    // For each place the size of its subtree; 0 if it was not visited.
     sizes: Vec<usize>,
-    // By place the greatest of those right below it; none where there is none.
+    // For each place the greatest subtree right below it; `NONE` for a leaf.
     greatest: Vec<usize>,
-    // By place its stop.
+    // For each place its stop.
     stops: Vec<usize>,
-    // By place the stop for the next one right below it.
+    // For each place the stop of its next child.
     frees: Vec<usize>,
-    // By stop the node; none for all outside.
+    // For each stop its node; `NONE` for all nodes outside.
     nodes: Vec<usize>,
-    // By stop the one above it; none where a walk begins.
+    // For each stop the one above it; `NONE` where a walk starts.
     aboves: Vec<usize>,
-    // By stop.
+    // For each stop the size of its subtree.
     lengths: Vec<usize>,
 }
 
@@ -52,24 +52,24 @@ impl Tree {
         self.nodes.len()
     }
 
-    /// The node at a stop; none for all outside.
+    /// The node at a stop; `NONE` for all nodes outside.
     pub(crate) fn node(&self, stop: usize) -> usize {
-        at(&self.nodes, stop, NONE)
+        number_at(&self.nodes, stop, NONE)
     }
 
     /// The stop of a place of the neighbourhood.
     pub(crate) fn stop(&self, place: usize) -> usize {
-        at(&self.stops, place, 0)
+        number_at(&self.stops, place, 0)
     }
 
-    /// The stop above; none where a walk began.
-    pub(crate) fn above(&self, stop: usize) -> usize {
-        at(&self.aboves, stop, NONE)
+    /// The stop above; `NONE` where a walk starts.
+    pub(crate) fn parent(&self, stop: usize) -> usize {
+        number_at(&self.aboves, stop, NONE)
     }
 
-    /// How many stops the subtree has.
+    /// The number of stops of the subtree.
     pub(crate) fn size(&self, stop: usize) -> usize {
-        at(&self.lengths, stop, 0)
+        number_at(&self.lengths, stop, 0)
     }
 
     /// The nodes of the subtree.
@@ -95,9 +95,9 @@ impl Tree {
         self.list_stops(hood)
     }
 
-    /// Puts a place into the order, where it is not there yet.
+    /// Appends a place to the order, unless it was visited.
     fn see(&mut self, place: usize, parent: usize) -> Result<(), Memory> {
-        if at(&self.sizes, place, 1) == 0 {
+        if number_at(&self.sizes, place, 1) == 0 {
             put(&mut self.sizes, place, 1);
             put(&mut self.parents, place, parent);
             append(&mut self.order, place)?;
@@ -105,7 +105,7 @@ impl Tree {
         Ok(())
     }
 
-    /// Goes on from the places in the order from this index on, to its end.
+    /// Visits all places that the branches reach from this index of the order on.
     fn spread(&mut self, spanning: &Spanning, first: usize) -> Result<(), Memory> {
         for index in first..self.sizes.len() {
             let Some(place) = self.order.get(index) else {
@@ -129,37 +129,37 @@ impl Tree {
         Ok(())
     }
 
-    /// Adds sizes upwards, from the last place of the order on.
+    /// Adds the sizes upwards, from the last place of the order.
     fn find_sizes(&mut self) {
         for place in self.order.iter().rev() {
-            let size = at(&self.sizes, *place, 0);
-            let parent = at(&self.parents, *place, NONE);
-            let sum = at(&self.sizes, parent, 0).saturating_add(size);
+            let size = number_at(&self.sizes, *place, 0);
+            let parent = number_at(&self.parents, *place, NONE);
+            let sum = number_at(&self.sizes, parent, 0).saturating_add(size);
             put(&mut self.sizes, parent, sum);
-            let greatest = at(&self.greatest, parent, NONE);
-            if size > at(&self.sizes, greatest, 0) {
+            let greatest = number_at(&self.greatest, parent, NONE);
+            if size > number_at(&self.sizes, greatest, 0) {
                 put(&mut self.greatest, parent, *place);
             }
         }
     }
 
-    /// Gives each place its stop: the greatest below another the last ones there.
+    /// Gives each place its stop, so that the greatest subtree below another one comes last.
     fn give_stops(&mut self, count: usize) -> Result<(), Memory> {
         refill(&mut self.stops, count, 0)?;
         refill(&mut self.frees, count, 0)?;
         let mut seen: usize = 0;
         for place in &self.order {
-            let size = at(&self.sizes, *place, 0);
-            let parent = at(&self.parents, *place, NONE);
+            let size = number_at(&self.sizes, *place, 0);
+            let parent = number_at(&self.parents, *place, NONE);
             let stop = if parent == NONE {
                 seen = seen.saturating_add(size);
                 seen.saturating_sub(size)
-            } else if at(&self.greatest, parent, NONE) == *place {
-                at(&self.stops, parent, 0)
-                    .saturating_add(at(&self.sizes, parent, 0))
+            } else if number_at(&self.greatest, parent, NONE) == *place {
+                number_at(&self.stops, parent, 0)
+                    .saturating_add(number_at(&self.sizes, parent, 0))
                     .saturating_sub(size)
             } else {
-                let free = at(&self.frees, parent, 0);
+                let free = number_at(&self.frees, parent, 0);
                 put(&mut self.frees, parent, free.saturating_add(size));
                 free
             };
@@ -169,18 +169,18 @@ impl Tree {
         Ok(())
     }
 
-    /// Lists what is known of places by their stops.
+    /// Lists what is known of the places, by stop.
     fn list_stops(&mut self, hood: &Neighbourhood) -> Result<(), Memory> {
         let count = self.order.len();
         refill(&mut self.nodes, count, NONE)?;
         refill(&mut self.aboves, count, NONE)?;
         refill(&mut self.lengths, count, 0)?;
         for place in &self.order {
-            let stop = at(&self.stops, *place, 0);
-            let parent = at(&self.parents, *place, NONE);
+            let stop = number_at(&self.stops, *place, 0);
+            let parent = number_at(&self.parents, *place, NONE);
             put(&mut self.nodes, stop, hood.member(*place));
-            put(&mut self.aboves, stop, at(&self.stops, parent, NONE));
-            put(&mut self.lengths, stop, at(&self.sizes, *place, 0));
+            put(&mut self.aboves, stop, number_at(&self.stops, parent, NONE));
+            put(&mut self.lengths, stop, number_at(&self.sizes, *place, 0));
         }
         Ok(())
     }

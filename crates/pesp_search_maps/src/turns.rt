@@ -1,37 +1,38 @@
-//! What it costs to turn one side of a cut against the other.
+//! The charges of all turns of one side of a cut.
 
 use crate::charge::Charge;
 use crate::links::Link;
 use pesp_base::{Memory, Period};
 use std::alloc::Global;
 
-/// What changes at a turn.
+/// The changes at a turn.
 #[derive(Clone, Copy)]
 struct Change {
-    // How much more the excess rises from this turn to the next one than to this one.
+    // The second difference of the violation at this turn.
     bend: i64,
-    // What the cost rises to the next turn besides the rate.
+    // The rise of the cost to the next turn besides the rate.
     jump: i64,
 }
 
 impl Change {
+    /// No change.
     const NONE: Change = Change { bend: 0, jump: 0 };
 }
 
-/// What each turn of a side, from 0 to the period less 1, is charged with above none.
+/// The charge of each turn of a side, from 0 to the period less 1, relative to turn 0.
 ///
-/// An arc's excess rises and falls by 1 with each unit of turn, and its cost by the weight, but
-/// where its slack passes from the period less 1 to 0. So an arc takes a few entries here, and the
-/// sums over all arcs are made at the end.
+/// The violation of an arc is piecewise linear in the turn, and its cost is linear but for a jump where its
+/// slack passes from the period less 1 to 0. So an arc adds a few entries here instead of one for each turn,
+/// and one summation at the end covers all arcs.
 #[derive(Drop)]
 pub(crate) struct Turns {
-    // As many changes there are.
+    // The number of changes.
     period: u16,
-    // By turn, in a circle.
+    // One for each turn, in a circle.
     changes: Vec<Change>,
-    // What the excess rises from the last turn to turn 0.
+    // The rise of the violation from the last turn to turn 0.
     slope: i64,
-    // What the cost rises with each unit of turn.
+    // The rise of the cost with each unit of turn.
     rate: i64,
 }
 
@@ -48,14 +49,14 @@ impl Turns {
         })
     }
 
-    /// No turn is charged with anything.
+    /// Sets all charges to 0.
     pub(crate) fn clear(&mut self) {
         self.changes.fill(Change::NONE);
         self.slope = 0;
         self.rate = 0;
     }
 
-    /// The change at which a link of some rise comes to another one, from 0 to the period.
+    /// The change at which the rise of a link reaches a given one, from 0 to the period.
     fn change(&mut self, rise: u16, at: u16) -> Option<&mut Change> {
         let ahead = at.wrapping_add(self.period).wrapping_sub(rise);
         let turn = ahead.min(ahead.wrapping_sub(self.period));
@@ -75,9 +76,9 @@ impl Turns {
         }
     }
 
-    /// Charges for the excess of a link across the cut so many times.
+    /// Adds the violation of a link across the cut, multiplied by `times`.
     fn add_excess(&mut self, width: u16, rise: u16, times: i64) {
-        // As far as this from either end of the arc's slacks what it lacks or has too much rises.
+        // Outside the span, the violation grows for this distance from either end, and then falls.
         let half = self.period.wrapping_sub(width) / 2;
         if half == 0 {
             return;
@@ -88,7 +89,7 @@ impl Turns {
         self.bend(rise, crest, less);
         self.bend(rise, fall, less);
         self.bend(rise, 0, times);
-        // The step to this rise, which is the last one of a lap where this is 0.
+        // The step that leads to this rise; for rise 0 it is the last one of the circle.
         let step = if rise == 0 { self.period } else { rise };
         if step > fall {
             self.slope = self.slope.wrapping_sub(times);
@@ -97,7 +98,7 @@ impl Turns {
         }
     }
 
-    /// Charges for a link across the cut, from the side that is turned; -1 times takes it back.
+    /// Adds the charge of a link across the cut, as seen from the turned side; -1 times subtracts it.
     pub(crate) fn add(&mut self, link: &Link, rise: u16, times: i64) {
         self.add_excess(link.width, rise, times);
         let rate = link.rate().wrapping_mul(times);
@@ -111,7 +112,7 @@ impl Turns {
         self.rate = self.rate.wrapping_add(rate);
     }
 
-    /// Charges for all that others charge for.
+    /// Adds all charges of others.
     pub(crate) fn add_all(&mut self, others: &Turns) {
         for (change, other) in self.changes.iter_mut().zip(&others.changes) {
             change.bend = change.bend.wrapping_add(other.bend);
@@ -121,7 +122,7 @@ impl Turns {
         self.rate = self.rate.wrapping_add(others.rate);
     }
 
-    /// Counts turns from this one on.
+    /// Shifts the circle so that this turn becomes turn 0.
     pub(crate) fn rotate(&mut self, turn: u16) {
         let turn = usize::from(turn).min(self.changes.len());
         for change in &self.changes[..turn] {
@@ -130,7 +131,7 @@ impl Turns {
         self.changes.rotate_left(turn);
     }
 
-    /// The turn with the least charge, and that; 0 where none helps.
+    /// The turn with the least charge, and that charge; 0 if no turn helps.
     pub(crate) fn best(&self) -> (u16, Charge) {
         let mut best = Charge::NONE;
         let mut now = best;
@@ -142,7 +143,7 @@ impl Turns {
             now.excess = now.excess.wrapping_add(slope);
             now.cost = now.cost.wrapping_add(self.rate).wrapping_add(change.jump);
             turn = turn.wrapping_add(1);
-            // Most turns leave more, which one question settles.
+            // Most turns raise the violation, so one comparison rejects them.
             if now.excess <= best.excess && now < best {
                 best = now;
                 best_turn = turn;

@@ -1,4 +1,4 @@
-//! Least maps of a network, by pieces that are solved apart.
+//! Maps of least cost, by pieces of the network that are solved separately.
 
 ghost use Rattle.std.specs.Prelude.{◌≡◌, ◌≢◌, ◌+◌, ◌-◌, ◌<◌, ◌≤◌, ◌^◌, ℕ, Option, Some, IfOk, OnOk};
 ghost use Rattle.pesp_search_least.specs.Spending.{OnlySpends, SpendsUnit};
@@ -12,12 +12,14 @@ use pesp_base::Memory;
 use pesp_search_least::{Budget, Candidate, Limits, Outcome};
 use std::alloc::Global;
 
-/// How many pieces may be peeled off, one within the other.
+/// The most pieces peeled off, each from the rest of the one before: it bounds the depth of the recursion, and
+/// later pieces are searched together. No trial of this number is recorded; pieces themselves are
+/// (docs/HISTORY.md, "What the search could do without").
 const MOST_PIECES: usize = 100;
 
 impl Network {
-    /// The map that those of the piece and of the rest make, at what both cost.
-    fn joined(&self, peeled: &Peeled, piece: &Candidate, rest: Candidate) -> Candidate
+    /// The map of the piece and of the rest joined, with the sum of their costs.
+    fn join(&self, peeled: &Peeled, piece: &Candidate, rest: Candidate) -> Candidate
         requires peeled { IsPeeled self.now peeled.now.piece peeled.now.rest
             peeled.now.cut.inner.items peeled.now.cut.joint }
         requires piece { IsCandidate (IsCosted peeled.now.piece) piece.now }
@@ -34,8 +36,8 @@ impl Network {
         }
     }
 
-    /// The outcome where the piece has a least map, and the rest has been searched below what is left
-    /// of the cap.
+    /// The outcome if the piece has a map of least cost, and the rest was searched below the cap less that
+    /// cost.
     fn joined_outcome(&self, peeled: &Peeled, piece: &Candidate, cap: u64, rest: Outcome) -> Outcome
         requires peeled { IsPeeled self.now peeled.now.piece peeled.now.rest
             peeled.now.cut.inner.items peeled.now.cut.joint }
@@ -47,11 +49,11 @@ impl Network {
             → StopsWhereSpent left result }
     {
         match rest {
-            Outcome::Found(rest) => Outcome::Found(self.joined(peeled, piece, rest)),
+            Outcome::Found(rest) => Outcome::Found(self.join(peeled, piece, rest)),
             Outcome::NoneBelow => Outcome::NoneBelow,
             Outcome::Spent { best, lower_bound } => {
                 let best = match best {
-                    Some(rest) => Some(self.joined(peeled, piece, rest)),
+                    Some(rest) => Some(self.join(peeled, piece, rest)),
                     None => None,
                 };
                 Outcome::Spent {
@@ -62,7 +64,7 @@ impl Network {
         }
     }
 
-    /// The same as [`Network::least`], with so many pieces solved apart at most.
+    /// As [`Network::least`], with at most `pieces` pieces solved separately.
     fn least_apart<M: Method>(
         &self,
         alloc: Global,
@@ -108,11 +110,9 @@ impl Network {
         }
     }
 
-    /// A map of least cost, where some cost is below the cap, by a method that is asked for each
-    /// piece.
+    /// A map of least cost, if some cost is below the cap. The method searches each piece.
     ///
-    /// No cost is below the floor. The search ends with a least one, and stops before that only where
-    /// the budget is spent.
+    /// No cost is below the floor. The search ends with a map of least cost, unless the budget runs out first.
     pub fn least<M: Method>(
         &self,
         alloc: Global,

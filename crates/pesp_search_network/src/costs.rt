@@ -1,4 +1,4 @@
-//! What maps cost.
+//! Costs of maps.
 
 ghost use Rattle.std.specs.Prelude.{◌≡◌, ℕ, ◌<◌, ◌≤◌, IfSome, IsTrue, MatchBool, MatchOption, slice_index};
 ghost use Rattle.pesp_search_network.specs.Arcs.{IsBetween, IsCosted, KeepsRows, cost_met, has};
@@ -6,7 +6,7 @@ ghost use Rattle.pesp_search_network.specs.Arcs.{IsBetween, IsCosted, KeepsRows,
 use crate::{Arc, Network};
 use pesp_base::{Period, allows, slack};
 
-/// Weight times slack of an arc between these residues of its ends, where they meet it.
+/// The weight times the slack of an arc between these residues of its ends, if they meet it.
 pub(crate) fn cost_between(period: Period, arc: &Arc, from: u16, to: u16) -> Option<u64>
     requires from { from < period }
     requires to { to < period }
@@ -22,7 +22,7 @@ pub(crate) fn cost_between(period: Period, arc: &Arc, from: u16, to: u16) -> Opt
 }
 
 impl Network {
-    /// Whether the event may stand at the residue.
+    /// Whether the event's domain contains the residue.
     pub(crate) fn may_have(&self, event: usize, residue: u16) -> bool
         requires { event < self.now.events }
         ensures { MatchBool result
@@ -35,7 +35,7 @@ impl Network {
         }
     }
 
-    /// Whether the map gives each event a residue at which it may stand.
+    /// Whether the map gives each event a residue of its domain.
     fn keeps_rows(&self, map: &[u16]) -> bool
         ensures { MatchBool result (KeepsRows self.now map.now) (KeepsRows self.now map.now → ⊥) }
     {
@@ -50,7 +50,7 @@ impl Network {
         true
     }
 
-    /// Weight times slack of an arc at a map, where the map meets it.
+    /// The weight times the slack of an arc at a map, if the map meets it.
     fn arc_cost(&self, arc: Arc, map: &[u16]) -> Option<u64>
         requires between { IsBetween self.now.events arc }
         requires keeps_rows { KeepsRows self.now map.now }
@@ -61,7 +61,7 @@ impl Network {
         cost_between(self.period(), &arc, map[arc.from], map[arc.to])
     }
 
-    /// The cost of a map that gives each event a residue at which it may stand, where each arc is met.
+    /// The cost of a map within the domains, if it meets each arc.
     fn cost_in_rows(&self, map: &[u16]) -> Option<u64>
         requires { KeepsRows self.now map.now }
         ensures { MatchOption result ((cost : ℕ) → IsCosted self.now map.now cost → ⊥)
@@ -74,7 +74,7 @@ impl Network {
         Some(cost)
     }
 
-    /// The cost of a map: none where an event may not stand at its residue, or an arc is not met.
+    /// The cost of a map; none if it leaves a domain or violates an arc.
     pub fn cost(&self, map: &[u16]) -> Option<u64>
         ensures { MatchOption result ((cost : ℕ) → IsCosted self.now map.now cost → ⊥)
             (IsCosted self.now map.now) }

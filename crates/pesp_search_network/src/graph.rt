@@ -1,19 +1,19 @@
-//! Which nodes are joined.
+//! The adjacency of nodes.
 //!
-//! Nothing is proved of it but that it is safe: cuts that it leads to are checked.
+//! Nothing is proved of it except that it is safe: the cuts found with it are checked.
 
 use pesp_base::Memory;
 use std::alloc::Global;
 
-/// For each node those that it is joined with.
+/// The neighbours of each node.
 #[derive(Drop)]
 pub(crate) struct Graph {
-    // By node; of two that are joined each is in the list of the other.
+    // For each node its neighbours; adjacency is symmetric.
     lists: Vec<Vec<usize>>,
 }
 
 impl Graph {
-    /// So many nodes, none of which are joined.
+    /// A graph of unconnected nodes.
     pub(crate) fn new(alloc: Global, nodes: usize) -> Result<Graph, Memory> {
         let mut lists = Vec::new(alloc);
         for _node in 0..nodes {
@@ -44,7 +44,7 @@ impl Graph {
         Ok(())
     }
 
-    /// Joins two nodes, if they are not joined.
+    /// Joins two nodes, unless they are joined.
     pub(crate) fn join(&mut self, one: usize, other: usize) -> Result<(), Memory> {
         if self.neighbours(other).contains(&one) {
             return Ok(());

@@ -1,5 +1,4 @@
-//! Networks of arcs between events by index, and their maps of least cost, by pieces and by any
-//! method for these.
+//! Networks of arcs between events by index, and maps of least cost, by pieces and by any method for one piece.
 #![tactic(auto)]
 
 mod apart;

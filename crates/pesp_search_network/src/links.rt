@@ -1,6 +1,6 @@
-//! Which events of a network depend on one another.
+//! The dependencies between events of a network.
 //!
-//! Nothing is proved of it but that it is safe: cuts that it leads to are checked.
+//! Nothing is proved of them except that they are safe to compute: the cuts found with them are checked.
 
 ghost use Rattle.std.specs.Prelude.{◌<◌};
 ghost use Rattle.pesp_search_network.specs.Arcs.{IsBetween};
@@ -15,18 +15,17 @@ use std::alloc::Global;
 struct Link {
     // An event, or the origin.
     one: usize,
-    // An event that has more than one residue.
+    // An event with more than one residue.
     other: usize,
 }
 
-/// Whether an event of this row may stand at every residue.
+/// Whether a domain contains every residue.
 fn is_full(row: &[bool]) -> bool {
     row.iter().all(|held| *held)
 }
 
 impl Network {
-    /// What an arc joins: its ends, or the origin and one of these where the other one has one
-    /// residue alone.
+    /// The nodes that an arc joins: its ends, or the origin and one end if the other end has a single residue.
     fn link_of(&self, arc: &Arc) -> Option<Link>
         requires { IsBetween self.now.events arc.now }
     {
@@ -46,8 +45,8 @@ impl Network {
         Some(Link { one, other })
     }
 
-    /// The events and the origin, which is joined with those that may not stand everywhere.
-    fn rooted(&self, alloc: Global) -> Result<Graph, Memory> {
+    /// The events and the origin, which is joined to all events whose domains are not full.
+    fn rooted_graph(&self, alloc: Global) -> Result<Graph, Memory> {
         let origin = self.events();
         let mut graph = Graph::new(alloc, origin + 1)?;
         for event in 0..origin {
@@ -58,11 +57,11 @@ impl Network {
         Ok(graph)
     }
 
-    /// A graph of the events and of the origin, in which arcs join those that have more than one
-    /// residue. The origin is joined with those that may not stand everywhere, or have an arc to one
-    /// with one residue alone.
+    /// A graph of the events and the origin, in which arcs join events with more than one residue. The origin
+    /// is joined to the events whose domains are not full, and to those with an arc to an event with a single
+    /// residue.
     pub(crate) fn links(&self, alloc: Global) -> Result<Graph, Memory> {
-        let mut graph = self.rooted(alloc)?;
+        let mut graph = self.rooted_graph(alloc)?;
         for index in 0..self.arc_count() {
             if let Some(link) = self.link_of(&self.arc(index)) {
                 graph.join(link.one, link.other)?;

@@ -1,22 +1,21 @@
-//! How a network that is not cut is searched.
+//! Methods that search an undivided network.
 
 use crate::Network;
 use pesp_base::Memory;
 use pesp_search_least::{Budget, Limits, Outcome};
 use std::alloc::Global;
 
-/// A search for maps of least cost of a network that is not cut into pieces. It may keep what it came to where it stopped, and go on
-/// where it is asked for the same network again.
+/// A search for maps of least cost of a network that is not divided further. It may keep its state when it
+/// stops, and resume if it is called for the same network again.
 pub trait Method {
     ghost use Rattle.std.specs.Prelude.{◌≡◌, ◌≢◌, ◌<◌, Some, IfOk, OnOk};
     ghost use Rattle.pesp_search_least.specs.Spending.{OnlySpends, SpendsUnit};
     ghost use Rattle.pesp_search_least.specs.Sums.{IsLowerBound, IsOutcome, IsStop, StopsWhereSpent};
     ghost use Rattle.pesp_search_network.specs.Arcs.{IsCosted};
 
-    /// A map of least cost, where some cost is below the cap.
+    /// A map of least cost, if some cost is below the cap.
     ///
-    /// No cost is below the floor. The search ends with a least one, and stops before that only where
-    /// the budget is spent.
+    /// No cost is below the floor. The search ends with a map of least cost, unless the budget runs out first.
     fn least(
         &mut self,
         alloc: Global,

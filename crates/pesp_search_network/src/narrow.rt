@@ -1,4 +1,4 @@
-//! Networks in which an event may stand at fewer residues.
+//! Removing residues from domains.
 
 ghost use Rattle.std.specs.Prelude.{◌<◌, ◌≤◌, IfSome};
 ghost use Rattle.pesp_search_network.specs.Narrow.{IsNarrowed};
@@ -7,7 +7,7 @@ ghost use Rattle.pesp_search_network.specs.Only.{IsOnly};
 use crate::Network;
 
 impl Network {
-    /// From now on the event may stand at none of the residues from `low` on and before `high`.
+    /// Removes the residues from `low` up to `high`, which is excluded, from the event's domain.
     pub(crate) fn forbid_from(&mut self, event: usize, low: u16, high: u16)
         requires event { event < self.old.events }
         requires low { low ≤ high }
@@ -19,7 +19,7 @@ impl Network {
         }
     }
 
-    /// The residue of an event that has one alone.
+    /// The residue of an event with a single one.
     pub(crate) fn only(&self, event: usize) -> Option<u16>
         requires { event < self.now.events }
         ensures { IfSome result (IsOnly self.now event) }

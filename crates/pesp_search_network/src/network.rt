@@ -11,18 +11,18 @@ use pesp_base::{Memory, Period, Weight};
 use std::alloc::Global;
 use std::marker::Model;
 
-/// Events by index, arcs between them, and at which residues each event may stand.
+/// Events by index, arcs between them, and a domain for each event.
 #[derive(Drop)]
 pub struct Network {
-    // That of each row.
+    // The period of each domain.
     period: Period,
-    // At most 20,000.
+    // The number of events, at most 20,000.
     events: usize,
-    // Each between two of the events; at most 100,000.
+    // The arcs, each between two of the events; at most 100,000.
     arcs: Vec<Arc>,
-    // For each event, for each residue, whether the event may stand there.
+    // For each event and each residue, whether the domain contains it.
     rows: Vec<bool>,
-    // For each event whether `imply` was told of it. Nothing is relied upon.
+    // For each event whether `imply` was called for it. No proof relies on it.
     implied: Vec<bool>,
 }
 
@@ -36,8 +36,8 @@ impl Model for Network {
     ghost invariant = { λ a. AreArcs (record { period = a.period; events = a.events; arcs = a.arcs.items; rows = a.rows.items }) };
 }
 
-/// The same arc, without its weight where that is not kept.
-fn weighing(arc: Arc, is_kept: bool) -> Arc
+/// The arc, without its weight if `is_kept` is false.
+fn weigh(arc: Arc, is_kept: bool) -> Arc
     ensures { result ≡ kept is_kept arc }
 {
     if is_kept {
@@ -49,7 +49,7 @@ fn weighing(arc: Arc, is_kept: bool) -> Arc
     }
 }
 
-/// The same arcs, of which those of this part alone have their weights.
+/// The arcs; only those of this part keep their weights.
 fn arcs_of_part(
     alloc: Global,
     arcs: &[Arc],
@@ -61,7 +61,7 @@ fn arcs_of_part(
 {
     let mut of_part = Vec::new(alloc);
     for index in 0..arcs.len() {
-        let arc = weighing(arcs[index], parts[index] == part);
+        let arc = weigh(arcs[index], parts[index] == part);
         if of_part.push(arc).is_err() {
             return Err(Memory);
         }
@@ -70,7 +70,7 @@ fn arcs_of_part(
 }
 
 impl Network {
-    /// A network without arcs, whose events may stand at every residue.
+    /// A network without arcs, with full domains.
     pub fn new(alloc: Global, period: Period, events: usize) -> Result<Network, Memory>
         requires { events ≤ 20000 }
         ensures { IfOk result (λ network.
@@ -96,7 +96,7 @@ impl Network {
         })
     }
 
-    /// Puts an arc after those that there are.
+    /// Appends an arc.
     pub fn add(&mut self, arc: Arc) -> Result<(), Memory>
         requires from { arc.from < self.old.events }
         requires to { arc.to < self.old.events }
@@ -110,7 +110,7 @@ impl Network {
         Ok(())
     }
 
-    /// From now on the event may not stand at the residue.
+    /// Removes the residue from the event's domain.
     pub fn forbid(&mut self, event: usize, residue: u16)
         requires event { event < self.old.events }
         requires residue { residue < self.old.period }
@@ -122,7 +122,7 @@ impl Network {
         self.rows[index] = false;
     }
 
-    /// Tells of an event that arcs and other rows imply its row: a method may leave it aside.
+    /// Records that the event's domain follows from arcs and other domains, so a method may ignore it.
     pub fn imply(&mut self, event: usize)
         ensures { self.new ≡ self.old }
     {
@@ -131,7 +131,7 @@ impl Network {
         }
     }
 
-    /// Whether that was told of the event.
+    /// Whether that was recorded for the event.
     pub fn is_implied(&self, event: usize) -> bool {
         match self.implied.get(event) {
             Some(is_implied) => *is_implied,
@@ -139,15 +139,15 @@ impl Network {
         }
     }
 
-    /// What was told, once more.
-    fn implied(&self) -> Result<Vec<bool>, Memory> {
+    /// A copy of these records.
+    fn copy_implied(&self) -> Result<Vec<bool>, Memory> {
         match self.implied.clone() {
             Ok(implied) => Ok(implied),
             Err(_) => Err(Memory),
         }
     }
 
-    /// The same network once more.
+    /// A copy of the network.
     pub fn copy(&self) -> Result<Network, Memory>
         ensures { IfOk result (λ network. network ≡ self.now) }
     {
@@ -162,7 +162,7 @@ impl Network {
             events: self.events,
             arcs,
             rows,
-            implied: self.implied()?,
+            implied: self.copy_implied()?,
         })
     }
 
@@ -201,11 +201,11 @@ impl Network {
             events: self.events,
             arcs,
             rows,
-            implied: self.implied()?,
+            implied: self.copy_implied()?,
         })
     }
 
-    /// The same network, whose arcs weigh nothing but those of this part.
+    /// A copy of the network in which only the arcs of this part have weights.
     pub fn of_part(&self, alloc: Global, parts: &[usize], part: usize) -> Result<Network, Memory>
         requires { length parts.now ≡ length self.now.arcs }
         ensures { IfOk result (λ network.
@@ -220,11 +220,11 @@ impl Network {
             events: self.events,
             arcs,
             rows,
-            implied: self.implied()?,
+            implied: self.copy_implied()?,
         })
     }
 
-    /// Whether both have the same period, events, arcs and rows.
+    /// Whether both have the same period, events, arcs and domains.
     pub fn is_same(&self, other: &Network) -> bool
         ensures { IsTrue result ↔ (other.now ≡ self.now) }
     {
@@ -234,14 +234,14 @@ impl Network {
         self.arcs == other.arcs && self.rows == other.rows
     }
 
-    /// What holds of all networks.
+    /// Facts that hold for every network.
     pub fn sound(&self)
         ensures { AreArcs self.now }
     {
         let _ = &self.period;
     }
 
-    /// For each event, for each residue, whether the event may stand there.
+    /// For each event and each residue, whether the domain contains it.
     pub fn rows(&self) -> &[bool]
         ensures { result.now ≡ self.now.rows }
     {
@@ -270,7 +270,7 @@ impl Network {
         &self.arcs
     }
 
-    /// How many arcs there are.
+    /// The number of arcs.
     pub fn arc_count(&self) -> usize
         ensures value { result ≡ length self.now.arcs }
         ensures few { result ≤ 100000 }
@@ -286,7 +286,7 @@ impl Network {
         self.arcs[index]
     }
 
-    /// For each residue whether the event may stand there.
+    /// For each residue, whether the event's domain contains it.
     pub fn row(&self, event: usize) -> &[bool]
         requires { event < self.now.events }
         ensures long { length result.now ≡ self.now.period }

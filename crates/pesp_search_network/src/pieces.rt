@@ -1,4 +1,4 @@
-//! Pieces of a network that are solved apart.
+//! Pieces of a network that can be solved separately.
 
 ghost use Rattle.std.specs.Prelude.{◌≡◌, ℕ, ◌<◌, true, IfOk, IfSome, IsTrue};
 ghost use Rattle.pesp_search_network.specs.Arcs.{IsBetween};
@@ -10,19 +10,19 @@ use crate::{Arc, Network};
 use pesp_base::Memory;
 use std::alloc::Global;
 
-/// A network in two: a piece, and the rest.
+/// A network divided in two: a piece, and the rest.
 #[derive(Drop)]
 pub(crate) struct Peeled {
-    // All events, and the arcs with an end in the piece; other events keep one residue.
+    // All events, and the arcs with an end in the piece. Events outside keep one residue.
     pub(crate) piece: Network,
-    // All events, and the other arcs; those of the piece keep one residue.
+    // All events, and the other arcs. Events of the piece keep one residue.
     pub(crate) rest: Network,
-    // Which events the piece has, as `is_piece` checked it.
+    // The events of the piece; `is_piece` accepted it.
     pub(crate) cut: Separation,
 }
 
 impl Network {
-    /// Whether the event may stand at every residue.
+    /// Whether the event's domain is full.
     fn is_free(&self, event: usize) -> bool
         requires { event < self.now.events }
         ensures { result ≡ true → IsFree self.now event }
@@ -49,7 +49,7 @@ impl Network {
         }
     }
 
-    /// Whether all events of the piece may stand at every residue.
+    /// Whether all events of the piece have full domains.
     fn are_free(&self, cut: &Separation) -> bool
         ensures { result ≡ true → (v : ℕ) → v < self.now.events
             → IsTrue (is_inner cut.now.inner.items v) → IsFree self.now v }
@@ -62,7 +62,7 @@ impl Network {
         true
     }
 
-    /// Whether a map of the piece may be turned, where it hangs on an event.
+    /// Whether maps of the piece may be turned, which a piece joined to an event requires.
     fn may_turn(&self, cut: &Separation) -> bool
         ensures { result ≡ true → MayTurn self.now cut.now.inner.items cut.now.joint }
     {
@@ -72,7 +72,7 @@ impl Network {
         }
     }
 
-    /// Whether an arc ends where those of the piece may, if it is one of these.
+    /// Whether both ends of an arc are where those of the piece may be, if the arc has an end in the piece.
     fn stays(&self, cut: &Separation, arc: &Arc) -> bool
         requires { IsBetween self.now.events arc.now }
         ensures { result ≡ true → StaysIn self.now cut.now.inner.items cut.now.joint arc.now }
@@ -80,7 +80,7 @@ impl Network {
         !cut.touches(arc) || (self.is_end(cut, arc.from) && self.is_end(cut, arc.to))
     }
 
-    /// Whether what the piece costs does not depend on the rest.
+    /// Whether the cost of the piece does not depend on the rest.
     fn is_piece(&self, cut: &Separation) -> bool
         ensures { result ≡ true → IsPiece self.now cut.now.inner.items cut.now.joint }
     {
@@ -113,7 +113,7 @@ impl Network {
         Ok(None)
     }
 
-    /// Peels a piece off, if one is found.
+    /// Peels off a piece, if one is found.
     pub(crate) fn peel(&self, alloc: Global) -> Result<Option<Peeled>, Memory>
         ensures { IfOk result (λ found. IfSome found (λ peeled.
             IsPeeled self.now peeled.piece peeled.rest peeled.cut.inner.items peeled.cut.joint)) }

@@ -1,4 +1,4 @@
-//! Networks that are searched in the place of others.
+//! Presolving: a smaller network that is searched instead.
 
 mod clustered;
 mod clusters;

@@ -1,4 +1,4 @@
-//! Which events a piece of a network has.
+//! The events of a piece of a network.
 
 ghost use Rattle.std.specs.Prelude.{◌≡◌, ◌<◌, slice_index};
 ghost use Rattle.pesp_search_network.specs.Pieces.{IsJoined, is_inner, touches, turn_of};
@@ -6,16 +6,16 @@ ghost use Rattle.pesp_search_network.specs.Pieces.{IsJoined, is_inner, touches, 
 use crate::Arc;
 use pesp_base::Period;
 
-/// The events of a piece, and the one event outside that it hangs on, if it does.
+/// The events of a piece, and the one event outside that it is joined to, if any.
 #[derive(Drop)]
 pub(crate) struct Separation {
-    // For each event whether the piece has it.
+    // For each event whether it is in the piece.
     pub(crate) inner: Vec<bool>,
-    // A piece that hangs on no event may have arcs to any that have one residue alone.
+    // The event outside; a piece without one may still have arcs to events with a single residue.
     pub(crate) joint: Option<usize>,
 }
 
-/// The residue of an event, or 0 where the map has no such event.
+/// The residue of an event; 0 if the map does not have it.
 fn residue(map: &[u16], event: usize) -> usize
     ensures value { result ≡ slice_index map.now event }
     ensures small { result < 65536 }
@@ -27,7 +27,7 @@ fn residue(map: &[u16], event: usize) -> usize
 }
 
 impl Separation {
-    /// Whether the piece has the event.
+    /// Whether the event is in the piece.
     pub(crate) fn has(&self, event: usize) -> bool
         ensures { result ≡ is_inner self.now.inner.items event }
     {
@@ -44,7 +44,7 @@ impl Separation {
         self.has(arc.from) || self.has(arc.to)
     }
 
-    /// How far a map of the piece is to be turned, so that it agrees with one of the rest.
+    /// The turn after which a map of the piece agrees with one of the rest.
     pub(crate) fn turn(&self, period: Period, piece: &[u16], rest: &[u16]) -> usize
         ensures value { result ≡ turn_of period self.now.joint piece.now rest.now }
         ensures below { result < period }
@@ -58,7 +58,7 @@ impl Separation {
         (to + (period - from % period)) % period
     }
 
-    /// A map of the rest with the residues of one of the piece, turned.
+    /// A map of the rest, with the residues of the turned map of the piece.
     pub(crate) fn join(
         &self,
         period: Period,

@@ -1,4 +1,4 @@
-//! The shares that a piece and the rest have of a network.
+//! The networks of a piece and of the rest.
 
 ghost use Rattle.std.specs.Prelude.{◌≡◌, ℕ, ◌<◌, false, IfOk, IsTrue, MatchOption};
 ghost use Rattle.pesp_search_network.specs.Arcs.{has};
@@ -11,7 +11,7 @@ use pesp_base::Memory;
 use std::alloc::Global;
 
 impl Network {
-    /// The first residue at which the event may stand.
+    /// The first residue of the event's domain.
     pub(crate) fn first_residue(&self, event: usize) -> Option<u16>
         requires { event < self.now.events }
         ensures { MatchOption result
@@ -26,7 +26,7 @@ impl Network {
         None
     }
 
-    /// Leaves the event the first residue that it has, if it has one.
+    /// Restricts the event's domain to its first residue, if it has one.
     fn hold_first(&mut self, event: usize)
         requires { event < self.old.events }
         ensures { IsHeldFirst event self.old self.new }
@@ -38,7 +38,7 @@ impl Network {
         }
     }
 
-    /// Leaves the first residue that it has to each event that is not on this side of the cut.
+    /// Restricts each event on the other side of the cut to its first residue.
     fn thin(&mut self, cut: &Separation, side: bool)
         ensures { IsThinned cut.now.inner.items side self.old self.new }
     {
@@ -49,7 +49,7 @@ impl Network {
         }
     }
 
-    /// The arcs on this side of the cut; events of the other side are left one residue.
+    /// The arcs on this side of the cut. Events of the other side keep one residue.
     pub(crate) fn share(
         &self,
         alloc: Global,

@@ -1,6 +1,6 @@
 //! A depth-first traversal of a network, which shows where it may fall apart.
 //!
-//! Nothing is proved of it but that it is safe: a cut that it proposes is checked before it is used.
+//! Nothing is proved of it except that it is safe: each cut that it proposes is checked before use.
 
 ghost use Rattle.std.specs.Prelude.{◌≡◌, ◌<◌, IfOk, length};
 
@@ -13,28 +13,28 @@ use std::alloc::Global;
 /// An event in the order of discovery, with its low point (Hopcroft and Tarjan, 1973).
 #[derive(Clone, Copy)]
 pub(crate) struct Discovery {
-    // No other discovery has it.
+    // The event; no other discovery has it.
     event: usize,
-    // The index of the discovery from which the traversal came; none where it began anew.
+    // The index of the discovery from which the traversal came; none for the root of a tree.
     parent: Option<usize>,
-    // The low point: the first discovery that this one, or one below it, is joined with.
+    // The low point: the first discovery joined to this one or to a descendant.
     low: usize,
-    // How many discoveries are below it, itself too; they stand one after another.
+    // The number of descendants including this one, which are consecutive.
     size: usize,
-    // How many cycles their links close.
+    // The number of cycles that the links of the descendants close.
     cycles: usize,
 }
 
-/// An event that the traversal may go to, and the index of the discovery from which it would come.
+/// An event to visit, and the index of the discovery that leads to it.
 #[derive(Clone, Copy)]
 struct Step {
-    // It may have been discovered since, by another way.
+    // The event; it may have been discovered another way by now.
     event: usize,
-    // None where the traversal begins anew.
+    // None for the root of a tree.
     parent: Option<usize>,
 }
 
-/// Goes to an event that was not discovered before.
+/// Visits an event, unless it was discovered before.
 fn discover(
     graph: &Graph,
     step: Step,
@@ -71,7 +71,7 @@ fn discover(
     Ok(())
 }
 
-/// Goes to all events that are joined with this one.
+/// Visits all events reachable from this one.
 fn traverse_from(
     graph: &Graph,
     event: usize,
@@ -101,7 +101,7 @@ fn traverse_from(
     Ok(())
 }
 
-/// The discovery, with its low point and the cycles that its links to earlier ones close.
+/// The discovery with its low point, and with the cycles that its links to earlier ones close.
 fn with_low_point(
     graph: &Graph,
     indices: &[Option<usize>],
@@ -128,7 +128,7 @@ fn with_low_point(
     }
 }
 
-/// Tells the parent of a discovery what is known of it.
+/// Adds the results of a discovery to its parent.
 fn tell_parent(discoveries: &mut [Discovery], discovery: Discovery) {
     if let Some(parent) = discovery.parent {
         if parent < discoveries.len() {
@@ -143,7 +143,7 @@ fn tell_parent(discoveries: &mut [Discovery], discovery: Discovery) {
     }
 }
 
-/// Finds the low point of each discovery, from the last one on.
+/// Computes the low point of each discovery, in descending order.
 fn find_low_points(graph: &Graph, indices: &[Option<usize>], discoveries: &mut [Discovery]) {
     for index in (0..discoveries.len()).rev() {
         let discovery = with_low_point(graph, indices, index, discoveries[index]);
@@ -152,7 +152,7 @@ fn find_low_points(graph: &Graph, indices: &[Option<usize>], discoveries: &mut [
     }
 }
 
-/// The discoveries of a traversal of all nodes of a graph, which begins at this one.
+/// The discoveries of a traversal of all nodes, which starts at `first`.
 pub(crate) fn traverse(
     alloc: Global,
     graph: &Graph,
@@ -171,7 +171,7 @@ pub(crate) fn traverse(
     Ok(discoveries)
 }
 
-/// How many cycles there are.
+/// The number of independent cycles.
 pub(crate) fn cycles_of(discoveries: &[Discovery]) -> usize {
     let mut cycles: usize = 0;
     for discovery in discoveries {
@@ -183,10 +183,10 @@ pub(crate) fn cycles_of(discoveries: &[Discovery]) -> usize {
 }
 
 impl Discovery {
-    /// Whether what is below the discovery is joined with what came before at one node at most, and
-    /// there are cycles on both sides, so many in all.
+    /// Whether the descendants are joined to earlier discoveries at one node at most, with cycles on both
+    /// sides; `cycles` is the number of all cycles.
     ///
-    /// Without cycles there is nothing to search: each arc costs what it costs at least.
+    /// Without cycles there is nothing to search: each arc has its least cost.
     fn is_apart(self, cycles: usize) -> bool {
         let hangs = match self.parent {
             Some(parent) => parent <= self.low,
@@ -196,8 +196,8 @@ impl Discovery {
     }
 }
 
-/// The events below a discovery, and the one that they hang on. The origin stands after the events, and what
-/// hangs on it hangs on no event.
+/// The events of the descendants, and the event that they are joined to. The origin comes after the events;
+/// what is joined to it is joined to no event.
 pub(crate) fn cut_at(
     alloc: Global,
     events: usize,

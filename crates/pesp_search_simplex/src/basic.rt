@@ -1,10 +1,10 @@
-//! Basic numbers.
+//! Basic variables.
 
-/// What is known of a row: its number, and that number's value.
+/// A row of the tableau: its basic variable and that variable's value.
 #[derive(Clone, Copy)]
 pub(crate) struct Basic {
-    // Its index among all numbers.
+    // The index of the basic variable among all variables.
     pub(crate) number: usize,
-    /// In parts of `ONE`.
+    /// The value, in units of 1 / `ONE`.
     pub(crate) value: i64,
 }

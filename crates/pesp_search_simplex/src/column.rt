@@ -1,10 +1,10 @@
 //! Columns.
 
-/// What is known of a column: its number, which is not basic, and what the cost changes with it.
+/// A column of the tableau: its nonbasic variable and that variable's reduced cost.
 #[derive(Clone, Copy)]
 pub(crate) struct Column {
-    // Its index among all numbers.
+    // The index of the nonbasic variable among all variables.
     pub(crate) number: usize,
-    /// With as many bits after the point as the tableau says.
+    /// The reduced cost, with `cost_bits` bits after the point.
     pub(crate) cost: i64,
 }

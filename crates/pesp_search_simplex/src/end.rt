@@ -1,14 +1,14 @@
-//! Ends of a search for the least cost.
+//! The ways a run of the simplex ends.
 
-/// How a search for the least cost ends.
+/// How a run of the simplex ends.
 #[derive(Clone, Copy, PartialEq, Eq, Debug)]
 pub enum End {
-    /// All numbers lie in their ranges.
+    /// Optimal: every variable is in its range.
     Least,
-    /// The cost, rounded up, has come to the cap.
+    /// The cost, rounded up, has reached the cap.
     AtCap,
-    /// A row cannot come into its range, whatever the other numbers are.
+    /// Infeasible: one row cannot reach its range for any values of the other variables.
     Empty,
-    /// No work is left.
+    /// The work limit was reached.
     Spent,
 }

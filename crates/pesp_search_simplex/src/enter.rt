@@ -1,28 +1,30 @@
-//! Which row pivots, and at which column.
+//! The choice of the leaving row and the entering column.
 
 use crate::Tableau;
 use crate::fixed::times;
 
-/// A number is out of its range from this on.
+/// A variable counts as out of its range only if it is by more than this, 2^-14: a smaller tolerance would
+/// pivot on rounding errors, a larger one would accept worse solutions. No trial of this number is recorded.
 pub(crate) const SMALL: i64 = 67_108_864;
 
-/// An entry below this does not pivot.
+/// An entry smaller than this, 2^-18, is no pivot: dividing by it would magnify rounding errors. No trial of
+/// this number is recorded.
 const LEAST_PIVOT: i64 = 4_194_304;
 
-/// A column whose number comes to its other end as the row comes into its range.
+/// A breakpoint of the dual ratio test: a column whose variable helps to bring the row into its range.
 #[derive(Clone, Copy)]
 pub(crate) struct Point {
-    // By index.
+    // The index of the column.
     column: usize,
-    // The size of what the cost changes with the number.
+    // The absolute value of its reduced cost.
     cost: i64,
-    // The size of the row's entry, which is at least the least pivot.
+    // The absolute value of the row's entry, at least `LEAST_PIVOT`.
     entry: i64,
 }
 
 impl Point {
-    /// Whether it comes before another one: its quotient of cost and entry is smaller, or as great
-    /// and its entry is greater.
+    /// Whether this breakpoint comes before another: its ratio of cost to entry is smaller, or equal with a
+    /// greater entry, which is the more accurate pivot.
     fn is_before(&self, other: &Point) -> bool {
         let left = i128::from(self.cost).wrapping_mul(i128::from(other.entry));
         let right = i128::from(other.cost).wrapping_mul(i128::from(self.entry));
@@ -30,16 +32,19 @@ impl Point {
     }
 }
 
-/// How far a row is out of its range.
+/// How far a row is outside its range.
 #[derive(Clone, Copy)]
-pub(crate) struct Outside {
-    // By index; by how much, in parts of `ONE`; and whether it is above its range or below.
+pub(crate) struct Infeasibility {
+    // The index of the row.
     pub(crate) row: usize,
+    // The distance to the range, in units of 1 / `ONE`; negative inside the range.
     pub(crate) by: i64,
+    // Whether the row is above its range, not below.
     pub(crate) above: bool,
 }
 
-/// Brings the first one of those that come from an index on to that index.
+/// Swaps the first breakpoint at or after an index to that index. Few breakpoints are needed, so sorting all
+/// would take longer.
 fn bring_first(points: &mut [Point], from: usize) -> Option<Point> {
     let mut first = *points.get(from)?;
     let mut at = from;
@@ -58,43 +63,44 @@ fn bring_first(points: &mut [Point], from: usize) -> Option<Point> {
 }
 
 impl Tableau {
-    /// How far a row is out of its range; below 0 where it is within.
-    pub(crate) fn outside(&self, row: usize) -> Outside {
+    /// How far a row is outside its range; negative if it is inside.
+    pub(crate) fn infeasibility(&self, row: usize) -> Infeasibility {
         let Some(basic) = self.basics.get(row) else {
             let (by, above) = (0, false);
-            return Outside { row, by, above };
+            return Infeasibility { row, by, above };
         };
         let number = self.number(basic.number);
         let below = number.low.wrapping_sub(basic.value);
         let over = basic.value.wrapping_sub(number.high);
-        Outside {
+        Infeasibility {
             row,
             by: below.max(over),
             above: below < over,
         }
     }
 
-    /// The row that is out of its range by most.
-    pub(crate) fn worst(&self) -> Option<Outside> {
+    /// The row farthest outside its range.
+    pub(crate) fn worst(&self) -> Option<Infeasibility> {
         let mut most = SMALL;
         let mut worst = None;
         for row in 0..self.basics.len() {
-            let outside = self.outside(row);
-            if most < outside.by {
-                most = outside.by;
-                worst = Some(outside);
+            let infeasibility = self.infeasibility(row);
+            if most < infeasibility.by {
+                most = infeasibility.by;
+                worst = Some(infeasibility);
             }
         }
         worst
     }
 
-    /// The column at which a row pivots. Columns that come before it go to their other ends.
-    pub(crate) fn entering(&mut self, outside: Outside) -> Option<usize> {
-        self.gather(outside);
-        let mut left = outside.by;
+    /// The entering column for a row. Variables at earlier breakpoints are flipped to their other ends, which
+    /// saves a pivot each (docs/HISTORY.md, "What the search could do without").
+    pub(crate) fn entering_column(&mut self, infeasibility: Infeasibility) -> Option<usize> {
+        self.gather(infeasibility);
+        let mut left = infeasibility.by;
         for index in 0..self.points.len() {
             let point = bring_first(&mut self.points, index)?;
-            left = left.wrapping_sub(self.across(point));
+            left = left.wrapping_sub(self.row_change(point));
             if left <= SMALL {
                 self.flip_first(index);
                 return Some(point.column);
@@ -103,15 +109,15 @@ impl Tableau {
         None
     }
 
-    /// How far the row goes as the point's number goes to its other end.
-    fn across(&self, point: Point) -> i64 {
+    /// How far the row moves when the breakpoint's variable is flipped to its other end.
+    fn row_change(&self, point: Point) -> i64 {
         match self.columns.get(point.column) {
             Some(column) => times(point.entry, self.number(column.number).width()),
             None => 0,
         }
     }
 
-    /// The columns of so many of the points go to their other ends.
+    /// Flips the variables of the first `count` breakpoints.
     fn flip_first(&mut self, count: usize) {
         for index in 0..count {
             if let Some(&point) = self.points.get(index) {
@@ -120,26 +126,26 @@ impl Tableau {
         }
     }
 
-    /// Gathers the columns that bring a row nearer to its range.
-    fn gather(&mut self, outside: Outside) {
+    /// Collects the columns that can bring a row nearer to its range.
+    fn gather(&mut self, infeasibility: Infeasibility) {
         self.points.clear();
         for column in 0..self.columns.len() {
-            if let Some(point) = self.point(outside, column) {
+            if let Some(point) = self.point(infeasibility, column) {
                 let _ = self.points.push(point);
             }
         }
     }
 
-    /// What a column does for a row, if it brings it nearer to its range.
-    fn point(&self, outside: Outside, index: usize) -> Option<Point> {
-        let entry = self.entries.at(outside.row, index);
+    /// The breakpoint of a column, if the column can bring the row nearer to its range.
+    fn point(&self, infeasibility: Infeasibility, index: usize) -> Option<Point> {
+        let entry = self.entries.entry(infeasibility.row, index);
         if -LEAST_PIVOT < entry && entry < LEAST_PIVOT {
             return None;
         }
         let column = self.columns.get(index)?;
         let number = self.number(column.number);
         let rises = (0 < entry) != number.is_high;
-        if rises == outside.above || number.high <= number.low {
+        if rises == infeasibility.above || number.high <= number.low {
             return None;
         }
         Some(Point {

@@ -4,12 +4,12 @@ use crate::Term;
 use pesp_base::Memory;
 use std::alloc::Global;
 
-/// For each row the terms that add up to its number.
+/// The terms of each row's equation.
 #[derive(Drop)]
 pub(crate) struct Equations {
-    // Row after row.
+    // The terms of all rows, row by row.
     terms: Vec<Term>,
-    // For each row the index after its last term.
+    // For each row, the index after its last term.
     ends: Vec<usize>,
 }
 
@@ -21,12 +21,12 @@ impl Equations {
         }
     }
 
-    /// How many rows there are.
+    /// The number of rows.
     pub(crate) fn count(&self) -> usize {
         self.ends.len()
     }
 
-    /// How many terms all rows have.
+    /// The number of terms in all rows.
     pub(crate) fn len(&self) -> usize {
         self.terms.len()
     }
@@ -38,7 +38,7 @@ impl Equations {
         }
     }
 
-    /// The terms of a row; none where there is no such row.
+    /// The terms of a row; empty if there is no such row.
     pub(crate) fn row(&self, row: usize) -> &[Term] {
         match self.terms.get(self.end(row)..self.end(row.wrapping_add(1))) {
             Some(terms) => terms,
@@ -46,7 +46,7 @@ impl Equations {
         }
     }
 
-    /// Puts a row after the others.
+    /// Appends a row.
     pub(crate) fn push(&mut self, terms: &[Term]) -> Result<(), Memory> {
         let end = self.terms.len().saturating_add(terms.len());
         if self.ends.push(end).is_err() {

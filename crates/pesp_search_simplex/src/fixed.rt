@@ -1,32 +1,35 @@
-//! Numbers in fixed point. What does not fit wraps.
+//! Fixed-point arithmetic. Overflow wraps: a wrong result costs time only, because bounds are recomputed
+//! exactly.
 
-/// Values are told in parts of this.
+/// Values are reported in units of 1 / `PARTS`.
 pub const PARTS: i64 = 65_536;
 
-/// Multipliers have at most so many bits after the point.
+/// The most bits that multipliers have after the point.
 const MOST_SCALE_BITS: u32 = 24;
 
-/// Entries and values are in parts of this, 2^40.
+/// Entries and values have 40 bits after the point.
 pub(crate) const ONE: i64 = 1_099_511_627_776;
 
-/// Costs have at most so many bits after the point,
+/// The most bits that costs have after the point.
 const MOST_COST_BITS: u32 = 30;
 
-/// and all given ones together have so many bits at most, so that reduced costs fit.
+/// The most bits of the sum of all given costs, including those after the point, so that reduced costs fit in
+/// 64 bits.
 const COST_ROOM: u32 = 58;
 
-/// An entry below this is 0.
+/// A smaller entry, below 2^-24, becomes 0: rounding errors would otherwise fill the matrix. No trial of this
+/// number is recorded.
 const TINY: i64 = 65_536;
 
-/// The low 64 bits.
+/// Selects the low 64 bits.
 const LOW_BITS: i128 = 0xffff_ffff_ffff_ffff;
 
-/// The low bits of a number.
+/// The low 64 bits of a wide number.
 pub(crate) fn narrow(wide: i128) -> i64 {
     ((wide & LOW_BITS) as u64).cast_signed()
 }
 
-/// The product with parts of `ONE`, rounded.
+/// The product of two numbers, one of them in units of 1 / `ONE`, rounded.
 pub(crate) fn product(left: i64, right: i64) -> i128 {
     i128::from(left)
         .wrapping_mul(i128::from(right))
@@ -34,12 +37,12 @@ pub(crate) fn product(left: i64, right: i64) -> i128 {
         .wrapping_shr(40)
 }
 
-/// The product with parts of `ONE`, rounded, as a narrow number.
+/// The same product, cut to 64 bits.
 pub(crate) fn times(left: i64, right: i64) -> i64 {
     narrow(product(left, right))
 }
 
-/// An entry, or 0 where it is tiny.
+/// The entry, or 0 if it is tiny.
 pub(crate) fn clean(entry: i64) -> i64 {
     if -TINY < entry && entry < TINY {
         0
@@ -48,7 +51,7 @@ pub(crate) fn clean(entry: i64) -> i64 {
     }
 }
 
-/// How many bits after the point costs have where the given ones are these: fewer where they are great.
+/// The number of bits after the point of costs, fewer if the given costs are great.
 pub(crate) fn cost_bits_of(costs: &[u32]) -> u32 {
     let mut total: u64 = 0;
     for cost in costs {
@@ -58,12 +61,12 @@ pub(crate) fn cost_bits_of(costs: &[u32]) -> u32 {
     COST_ROOM.saturating_sub(whole).min(MOST_COST_BITS)
 }
 
-/// How many bits after the point multipliers have, where costs have so many: at least one fewer.
+/// The number of bits after the point of multipliers, less than that of costs.
 pub(crate) fn scale_bits_of(cost_bits: u32) -> u32 {
     cost_bits.saturating_sub(1).min(MOST_SCALE_BITS)
 }
 
-/// A cost in parts of so many bits.
+/// A given cost with this number of bits after the point.
 pub(crate) fn cost_in(cost: u32, bits: u32) -> i64 {
     i64::from(cost).wrapping_shl(bits)
 }

@@ -1,18 +1,18 @@
-//! Quotients by one number.
+//! Division by a fixed number.
 
 use crate::fixed::{ONE, narrow};
 
-/// One over a number that is not 0, with 62 significant bits.
+/// The reciprocal of a nonzero number, with 62 significant bits.
 #[derive(Clone, Copy)]
 pub(crate) struct Inverse {
-    // Above 2^61 in size; 0 for that of 0.
+    // Above 2^61 in absolute value; 0 if the number was 0.
     factor: i64,
-    // By how many bits a product with the factor is too great.
+    // How many bits a product with `factor` has to be shifted right.
     shift: u32,
 }
 
 impl Inverse {
-    pub(crate) fn of(number: i64) -> Inverse {
+    pub(crate) fn new(number: i64) -> Inverse {
         let bits = 63_u32.saturating_sub(number.unsigned_abs().leading_zeros());
         let wide = 1_i128.wrapping_shl(bits.saturating_add(62));
         let factor = match wide.checked_div(i128::from(number)) {
@@ -25,13 +25,13 @@ impl Inverse {
         }
     }
 
-    /// The inverse in parts of `ONE`.
+    /// The reciprocal, in units of 1 / `ONE`.
     pub(crate) fn get(&self) -> i64 {
-        self.over(ONE)
+        self.quotient(ONE)
     }
 
-    /// So much over the number, rounded.
-    pub(crate) fn over(&self, left: i64) -> i64 {
+    /// The quotient of `left` and the number, rounded.
+    pub(crate) fn quotient(&self, left: i64) -> i64 {
         let half = 1_i128.wrapping_shl(self.shift.wrapping_sub(1));
         narrow(
             i128::from(left)

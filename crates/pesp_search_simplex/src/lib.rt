@@ -1,4 +1,4 @@
-//! A dual simplex for numbers in ranges, in fixed point. Nothing that it says is relied upon.
+//! A dual simplex for bounded variables, in fixed point. Nothing relies on its results: callers check them.
 #![tactic(auto)]
 
 mod basic;

@@ -6,9 +6,9 @@ use std::alloc::Global;
 /// Rows of entries, all of one width.
 #[derive(Drop)]
 pub(crate) struct Matrix {
-    // The entries of each row.
+    // The number of entries in each row.
     width: usize,
-    // Row after row.
+    // The entries of all rows, row by row.
     cells: Vec<i64>,
 }
 
@@ -21,7 +21,7 @@ impl Matrix {
         }
     }
 
-    /// Puts a row of zeros below the others.
+    /// Appends a row of zeros.
     pub(crate) fn push_row(&mut self) -> Result<(), Memory> {
         let len = self.cells.len().saturating_add(self.width);
         if self.cells.resize(len, 0).is_err() {
@@ -30,7 +30,7 @@ impl Matrix {
         Ok(())
     }
 
-    /// Rows of zeros, so many.
+    /// Replaces all rows by this number of rows of zeros.
     pub(crate) fn fill(&mut self, rows: usize) -> Result<(), Memory> {
         self.cells.clear();
         if self
@@ -43,7 +43,7 @@ impl Matrix {
         Ok(())
     }
 
-    /// All entries are 0 from now on.
+    /// Sets all entries to 0.
     pub(crate) fn clear(&mut self) {
         for cell in &mut self.cells {
             *cell = 0;
@@ -54,15 +54,15 @@ impl Matrix {
         row.wrapping_mul(self.width).wrapping_add(column)
     }
 
-    /// An entry; 0 where there is none.
-    pub(crate) fn at(&self, row: usize, column: usize) -> i64 {
+    /// An entry; 0 if there is none.
+    pub(crate) fn entry(&self, row: usize, column: usize) -> i64 {
         match self.cells.get(self.index(row, column)) {
             Some(cell) => *cell,
             None => 0,
         }
     }
 
-    /// Writes an entry where there is one.
+    /// Sets an entry, if there is one.
     pub(crate) fn set(&mut self, row: usize, column: usize, entry: i64) {
         let index = self.index(row, column);
         if let Some(cell) = self.cells.get_mut(index) {
@@ -70,7 +70,7 @@ impl Matrix {
         }
     }
 
-    /// Adds to an entry where there is one.
+    /// Adds to an entry, if there is one.
     pub(crate) fn add(&mut self, row: usize, column: usize, by: i64) {
         let index = self.index(row, column);
         if let Some(cell) = self.cells.get_mut(index) {
@@ -78,7 +78,7 @@ impl Matrix {
         }
     }
 
-    /// The entries of a row; none where there is no such row.
+    /// The entries of a row; empty if there is no such row.
     pub(crate) fn row(&self, row: usize) -> &[i64] {
         let start = self.index(row, 0);
         match self.cells.get(start..start.wrapping_add(self.width)) {

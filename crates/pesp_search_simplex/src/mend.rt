@@ -1,12 +1,13 @@
-//! Numbers at the wrong ends of their ranges.
+//! Restoring dual feasibility: nonbasic variables move to the cheaper ends of their ranges.
 
 use crate::Tableau;
 
-/// The sign of what the cost changes with a number counts from this on.
+/// A reduced cost of at most this absolute value counts as 0, so that rounding errors flip no variable. No
+/// trial of this number is recorded.
 const SMALL_COST: i64 = 65_536;
 
 impl Tableau {
-    /// Moves the number of a column to the other end of its range.
+    /// Moves the variable of a column to the other end of its range.
     pub(crate) fn flip(&mut self, column: usize) {
         let Some(&flipped) = self.columns.get(column) else {
             return;
@@ -19,7 +20,7 @@ impl Tableau {
         }
     }
 
-    /// Whether the cost falls where the number of a column goes to its other end.
+    /// Whether the cost falls if the variable of a column moves to its other end.
     fn falls(&self, column: usize) -> bool {
         let Some(found) = self.columns.get(column) else {
             return false;
@@ -31,7 +32,8 @@ impl Tableau {
         }
     }
 
-    /// Moves each number that is not basic to that end at which the cost is less.
+    /// Moves each nonbasic variable to the end where the cost is less. Rounding can leave it at the wrong one
+    /// (docs/HISTORY.md, "What the search could do without").
     pub(crate) fn mend(&mut self) {
         for column in 0..self.columns.len() {
             if self.falls(column) {

@@ -1,32 +1,34 @@
-//! Numbers.
+//! Variables of the simplex.
 
 use crate::fixed::ONE;
 
-/// Where a number stands.
+/// The row or the column of a variable.
 #[derive(Clone, Copy)]
 pub(crate) enum Place {
     Row(usize),
     Column(usize),
 }
 
-/// A number: its range, and where it stands.
+/// A variable: its range, and its place in the tableau.
 #[derive(Clone, Copy)]
 pub(crate) struct Number {
-    /// The ends of the range, in parts of `ONE`, after the division by two to the `shift`.
+    /// The least value, in units of 1 / `ONE`, divided by 2^`shift`.
     pub(crate) low: i64,
+    /// The greatest value in the same units, at least `low`.
     pub(crate) high: i64,
-    /// A row's number is kept divided by two to this, so that no rate of its equation is above 1.
+    /// The variable of a row is stored divided by 2^`shift`, so that no coefficient of its equation exceeds 1.
     pub(crate) shift: u32,
-    /// Where it is not basic: whether it stands at its high end.
+    /// If nonbasic: whether the variable is at the high end of its range.
     pub(crate) is_high: bool,
-    /// Whether it was basic before the tableau began anew.
+    /// Whether it was basic before the last refresh.
     pub(crate) was_basic: bool,
+    /// The row of a basic variable, or the column of a nonbasic one.
     pub(crate) place: Place,
 }
 
 impl Number {
-    /// A number whose range is 0 alone.
-    pub(crate) fn at(place: Place, shift: u32) -> Number {
+    /// A variable whose range is 0 alone.
+    pub(crate) fn new(place: Place, shift: u32) -> Number {
         Number {
             low: 0,
             high: 0,
@@ -37,17 +39,17 @@ impl Number {
         }
     }
 
-    /// One, as this number is kept.
+    /// The number 1 in the units of this variable.
     pub(crate) fn unit(&self) -> i64 {
         ONE.wrapping_shr(self.shift)
     }
 
-    /// Where it stands while it is not basic.
+    /// The value while nonbasic: one end of the range.
     pub(crate) fn end(&self) -> i64 {
         if self.is_high { self.high } else { self.low }
     }
 
-    /// How wide the range is.
+    /// The width of the range.
     pub(crate) fn width(&self) -> i64 {
         self.high.wrapping_sub(self.low)
     }

@@ -6,11 +6,12 @@ use crate::fixed::{ONE, clean, product, times};
 use crate::inverse::Inverse;
 use crate::number::Place;
 
-/// An entry of the row that pivots.
+/// A nonzero entry of the pivot row.
 #[derive(Clone, Copy)]
 pub(crate) struct Touch {
-    // By index, with an entry that is not 0.
+    // The index of its column.
     column: usize,
+    // Never 0.
     entry: i64,
 }
 
@@ -23,7 +24,7 @@ fn add_once(row: &mut [i64], touched: &[Touch]) {
     }
 }
 
-/// Takes the touched entries from a row.
+/// Subtracts the touched entries from a row.
 fn take_once(row: &mut [i64], touched: &[Touch]) {
     for touch in touched {
         if let Some(entry) = row.get_mut(touch.column) {
@@ -32,7 +33,7 @@ fn take_once(row: &mut [i64], touched: &[Touch]) {
     }
 }
 
-/// Adds so many times the touched entries to a row.
+/// Adds a multiple of the touched entries to a row.
 fn add_times(row: &mut [i64], touched: &[Touch], factor: i64) {
     for touch in touched {
         if let Some(entry) = row.get_mut(touch.column) {
@@ -41,7 +42,7 @@ fn add_times(row: &mut [i64], touched: &[Touch], factor: i64) {
     }
 }
 
-/// Adds so many times the touched entries to a row; most factors are 1 and -1.
+/// Adds a multiple of the touched entries to a row. Most factors are 1 or -1, which need no product.
 fn add_touched(row: &mut [i64], touched: &[Touch], factor: i64) {
     if factor == ONE {
         add_once(row, touched);
@@ -53,16 +54,16 @@ fn add_touched(row: &mut [i64], touched: &[Touch], factor: i64) {
 }
 
 impl Tableau {
-    /// The basic number of a row goes to an end of its range, and that of the column becomes basic.
+    /// Moves the basic variable of a row to an end of its range and makes the variable of the column basic.
     pub(crate) fn pivot(&mut self, row: usize, column: usize, above: bool) {
-        let inverse = Inverse::of(self.entries.at(row, column));
+        let inverse = Inverse::new(self.entries.entry(row, column));
         let (Some(&basic), Some(&entering)) = (self.basics.get(row), self.columns.get(column))
         else {
             return;
         };
         let leaving = self.number(basic.number);
         let bound = if above { leaving.high } else { leaving.low };
-        let delta = inverse.over(bound.wrapping_sub(basic.value));
+        let delta = inverse.quotient(bound.wrapping_sub(basic.value));
         let rows = self.basics.len();
         let columns = self.columns.len();
         self.spend(rows.saturating_add(columns));
@@ -77,7 +78,7 @@ impl Tableau {
         self.change_places(row, column, value, above);
     }
 
-    /// Solves a row for the number of a column, and keeps the other entries.
+    /// Solves the row for the variable of the column, and collects the row's other nonzero entries.
     fn turn(&mut self, row: usize, column: usize, inverse: Inverse) {
         self.touched.clear();
         let Some(entries) = self.entries.row_mut(row) else {
@@ -88,7 +89,7 @@ impl Tableau {
             if index == column {
                 *entry = inverse.get();
             } else if *entry != 0 {
-                *entry = clean(inverse.over(entry.wrapping_neg()));
+                *entry = clean(inverse.quotient(entry.wrapping_neg()));
                 let entry = *entry;
                 let _ = self.touched.push(Touch {
                     column: index,
@@ -99,9 +100,9 @@ impl Tableau {
         }
     }
 
-    /// Puts the turned row into another one in place of the number of the column.
+    /// Substitutes the solved row into another row.
     fn combine(&mut self, row: usize, column: usize, delta: i64, inverse: i64) {
-        let factor = self.entries.at(row, column);
+        let factor = self.entries.entry(row, column);
         if factor == 0 {
             return;
         }
@@ -116,7 +117,7 @@ impl Tableau {
         }
     }
 
-    /// Puts the turned row into the cost in place of the number of the column.
+    /// Substitutes the solved row into the reduced costs.
     fn combine_cost(&mut self, column: usize, delta: i64, inverse: i64) {
         let Some(&entering) = self.columns.get(column) else {
             return;
@@ -132,7 +133,7 @@ impl Tableau {
         self.cost = self.cost.wrapping_add(product(entering.cost, delta));
     }
 
-    /// The numbers of a row and a column change their places.
+    /// Exchanges the variables of a row and a column.
     fn change_places(&mut self, row: usize, column: usize, value: i64, above: bool) {
         let (Some(basic), Some(own)) = (self.basics.get_mut(row), self.columns.get_mut(column))
         else {

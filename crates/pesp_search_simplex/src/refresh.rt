@@ -1,17 +1,19 @@
-//! Mistakes that rounding leaves, and how they are undone.
+//! Rounding errors: finding them, and recomputing the tableau.
 
 use crate::Tableau;
 use crate::fixed::{cost_in, product, times};
 use crate::number::Place;
 
-/// Equations are off from this on.
+/// The greatest error of an equation, 2^-17. A smaller limit would recompute tableaus more often, a larger one
+/// lets errors grow. No trial of this number is recorded.
 const MOST_RESIDUAL: u64 = 8_388_608;
 
-/// An entry below this does not pivot.
+/// While recomputing, an entry of at most 2^-14 is no pivot: dividing by it would magnify rounding errors. No
+/// trial of this number is recorded.
 const LEAST_PIVOT: u64 = 67_108_864;
 
 impl Tableau {
-    /// How much an equation is off.
+    /// The error of a row's equation at the current values.
     fn residual(&self, row: usize) -> u64 {
         let index = self.columns.len().saturating_add(row);
         let unit = self.number(index).unit();
@@ -25,7 +27,8 @@ impl Tableau {
         sum.abs_diff(self.raw(index))
     }
 
-    /// Whether an equation is off by too much. None is, where they were tried since the last pivot.
+    /// Whether an equation has too great an error; false without a check if there was no pivot since the last
+    /// one.
     pub(crate) fn is_off(&mut self) -> bool {
         if self.untried == 0 {
             return false;
@@ -36,7 +39,7 @@ impl Tableau {
         self.is_some_off()
     }
 
-    /// Whether an equation is off by too much.
+    /// Whether some equation has too great an error.
     fn is_some_off(&self) -> bool {
         for row in 0..self.equations.count() {
             if MOST_RESIDUAL < self.residual(row) {
@@ -46,7 +49,7 @@ impl Tableau {
         false
     }
 
-    /// Begins anew with the same basic numbers.
+    /// Recomputes the tableau from its equations, with the same basic variables as far as possible.
     pub(crate) fn refresh(&mut self) {
         self.note_basics();
         self.reset_columns();
@@ -60,14 +63,14 @@ impl Tableau {
         self.untried = 0;
     }
 
-    /// Notes at each number whether it is basic.
+    /// Records which variables are basic.
     fn note_basics(&mut self) {
         for number in &mut self.numbers {
             number.was_basic = number.is_basic();
         }
     }
 
-    /// The given numbers go to the columns.
+    /// Makes the given variables nonbasic, in their own columns.
     fn reset_columns(&mut self) {
         self.cost = 0;
         for index in 0..self.columns.len() {
@@ -86,7 +89,7 @@ impl Tableau {
         }
     }
 
-    /// A row's own number goes to its row.
+    /// Makes a row's own variable basic in its row.
     fn reset_row(&mut self, row: usize) {
         let index = self.columns.len().saturating_add(row);
         if let Some(basic) = self.basics.get_mut(row) {
@@ -98,7 +101,7 @@ impl Tableau {
         self.fill(row, self.number(index).unit());
     }
 
-    /// Makes a number basic that was so, in place of the row's own.
+    /// Replaces the row's own variable by one that was basic, unless the row's own was basic too.
     fn pivot_anew(&mut self, row: usize) {
         let leaving = self.number(self.columns.len().saturating_add(row));
         if leaving.was_basic {
@@ -109,12 +112,12 @@ impl Tableau {
         }
     }
 
-    /// The column of the greatest entry among those of numbers that were basic.
+    /// The column with the greatest entry of the row among variables that were basic.
     fn column_anew(&self, row: usize) -> Option<usize> {
         let mut greatest = LEAST_PIVOT;
         let mut best = None;
         for (index, column) in self.columns.iter().enumerate() {
-            let size = self.entries.at(row, index).unsigned_abs();
+            let size = self.entries.entry(row, index).unsigned_abs();
             if greatest < size && self.number(column.number).was_basic {
                 greatest = size;
                 best = Some(index);

@@ -1,19 +1,21 @@
-//! The search for the least cost.
+//! The dual simplex method.
 
 use crate::{End, Tableau};
 
-/// Equations are tried after so many pivots.
+/// The number of pivots between two checks of the equations. Checks cost time and undo rounding in long runs
+/// (docs/HISTORY.md, "What the search could do without").
 const PIVOTS: u32 = 64;
 
-/// The cost has to be above the cap less 1 by one divided by two so many times: an 128th.
+/// `AtCap` requires that the cost exceeds the cap less 1 by 2^-7, a margin for rounding errors. No trial of
+/// this number is recorded.
 const MARGIN_BITS: u32 = 7;
 
 impl Tableau {
-    /// Searches for the least cost, until so much work is done.
+    /// Minimizes the cost, within a limit of work.
     ///
-    /// What it ends with holds as far as rounding allows. Before it says so, it tries the
-    /// equations, and begins anew with the same basic numbers where one is off. Out of memory for
-    /// entries that were left out nothing is done.
+    /// The result holds up to rounding. Before it returns, the equations are checked, and the tableau is
+    /// recomputed with the same basic variables if an error is too great. If there is no memory for entries
+    /// that were left out, nothing is done.
     pub fn solve(&mut self, cap: u64, most: u64) -> End {
         let gone_through = self.basics.len().saturating_add(self.columns.len());
         self.spend(gone_through);
@@ -37,7 +39,7 @@ impl Tableau {
         End::Spent
     }
 
-    /// One pivot, or how the search ends.
+    /// Makes one pivot, or returns how the run ends.
     fn step(&mut self, cap: u64) -> Option<End> {
         self.empty = None;
         if self.is_at(cap) {
@@ -49,7 +51,7 @@ impl Tableau {
         let Some(worst) = self.worst() else {
             return Some(End::Least);
         };
-        let Some(column) = self.entering(worst) else {
+        let Some(column) = self.entering_column(worst) else {
             self.empty = Some((worst.row, worst.above));
             return Some(End::Empty);
         };
@@ -58,7 +60,8 @@ impl Tableau {
         None
     }
 
-    /// Whether the cost, rounded up, has come to the cap, whatever was rounded.
+    /// Whether the cost, rounded up, has reached the cap in spite of rounding errors. The run stops then: the
+    /// node is cut anyway (docs/HISTORY.md, "What the search could do without").
     fn is_at(&self, cap: u64) -> bool {
         let before = i128::from(cap).wrapping_sub(1);
         let margin = 1i128.wrapping_shl(self.cost_bits.saturating_sub(MARGIN_BITS));

@@ -12,48 +12,49 @@ use crate::pivot::Touch;
 use pesp_base::Memory;
 use std::alloc::Global;
 
-/// The greatest end of a range, 2^21 in parts of `ONE`.
+/// The greatest absolute value of an end of a range: 2^21 in units of 1 / `ONE`.
 const GREATEST: i64 = 2_305_843_009_213_693_952;
 
-/// Numbers in ranges, with a cost each, and rows that add some of them up.
+/// A simplex tableau: bounded variables with costs, and rows that define further variables as sums.
 ///
-/// Each row says of its basic number: the value is the sum of entries times numbers that are not
-/// basic. These stand at an end of their ranges each. So every tableau bounds the cost from below.
+/// Each row states that its basic variable is the sum of its entries times the nonbasic variables. Each
+/// nonbasic variable is at an end of its range. So the reduced costs of every tableau give a lower bound on the
+/// cost.
 #[derive(Drop)]
 pub struct Tableau {
-    // What it was made with.
+    // Allocates everything in this tableau.
     pub(crate) alloc: Global,
-    // The cost of each given number.
+    // The cost of each given variable.
     pub(crate) costs: Vec<u32>,
-    // How many bits after the point costs have.
+    // The number of bits after the point of reduced costs.
     pub(crate) cost_bits: u32,
-    // What each row was as it was pushed.
+    // The equation of each row, as it was pushed.
     pub(crate) equations: Equations,
-    // The given numbers, and then those of the rows.
+    // The given variables, then those of the rows.
     pub(crate) numbers: Vec<Number>,
-    // As many as numbers are given.
+    // One for each given variable.
     pub(crate) columns: Vec<Column>,
     // One for each row.
     pub(crate) basics: Vec<Basic>,
-    // One row for each basic number, one column for each other one; in parts of ONE.
+    // One row for each basic variable, one column for each nonbasic one, in units of 1 / `ONE`.
     pub(crate) entries: Matrix,
-    // Whether the entries are left out, until it is searched.
+    // Whether the entries are left out until the tableau is next solved.
     pub(crate) is_light: bool,
-    // The cost of all numbers where they stand, with as many bits after the point.
+    // The cost at the current values, with `cost_bits` bits after the point.
     pub(crate) cost: i128,
-    // Grows only.
+    // The work so far; never decreases.
     pub(crate) work: u64,
-    // How many pivots there were since the equations were last tried.
+    // The number of pivots since the equations were last checked.
     pub(crate) untried: u32,
-    // The row that could not come into its range, and whether it was above it.
+    // The row that could not reach its range, and whether it was above it.
     pub(crate) empty: Option<(usize, bool)>,
-    // Where columns come to their other ends; filled for each pivot, with room for all columns.
+    // The breakpoints of the current pivot. It has room for all columns, so filling it cannot fail.
     pub(crate) points: Vec<Point>,
-    // The entries of the row that pivots; filled for each pivot, with room for all columns.
+    // The entries of the pivot row. It has room for all columns, so filling it cannot fail.
     pub(crate) touched: Vec<Touch>,
 }
 
-/// The columns of the given numbers at the start.
+/// The initial columns, those of the given variables.
 fn columns_of(alloc: Global, costs: &[u32], bits: u32) -> Result<Vec<Column>, Memory> {
     let mut columns = Vec::new(alloc);
     for (number, &cost) in costs.iter().enumerate() {
@@ -65,18 +66,19 @@ fn columns_of(alloc: Global, costs: &[u32], bits: u32) -> Result<Vec<Column>, Me
     Ok(columns)
 }
 
-/// The given numbers at the start, each with a range of 0 alone.
+/// The given variables at the start, each with the range 0 alone.
 fn numbers_of(alloc: Global, count: usize) -> Result<Vec<Number>, Memory> {
     let mut numbers = Vec::new(alloc);
     for number in 0..count {
-        if numbers.push(Number::at(Place::Column(number), 0)).is_err() {
+        if numbers.push(Number::new(Place::Column(number), 0)).is_err() {
             return Err(Memory);
         }
     }
     Ok(numbers)
 }
 
-/// The least number of halvings after which no rate is above 1.
+/// The least number of halvings after which no coefficient exceeds 1. Without halving, 40 events with 80
+/// activities took 1.6 times as long (docs/HISTORY.md, "What the search could do without").
 fn shift_of(terms: &[Term]) -> u32 {
     let mut greatest: u32 = 1;
     for term in terms {
@@ -86,7 +88,7 @@ fn shift_of(terms: &[Term]) -> u32 {
 }
 
 impl Tableau {
-    /// A tableau without rows. Each number's range is 0 alone.
+    /// A tableau without rows. Each variable has the range 0 alone.
     pub fn new(alloc: Global, costs: &[u32]) -> Result<Tableau, Memory> {
         let (Ok(own), Ok(points), Ok(touched)) = (
             Vec::from_slice(alloc, costs),
@@ -115,12 +117,12 @@ impl Tableau {
         })
     }
 
-    /// The same tableau once more.
+    /// A copy of the tableau.
     pub fn copy(&self) -> Result<Tableau, Memory> {
         self.copy_with(self.entries.copy()?, self.is_light)
     }
 
-    /// The same tableau with other entries.
+    /// A copy of the tableau with other entries.
     pub(crate) fn copy_with(&self, entries: Matrix, is_light: bool) -> Result<Tableau, Memory> {
         let (Ok(costs), Ok(numbers), Ok(columns), Ok(basics)) = (
             Vec::from_slice(self.alloc, &self.costs),
@@ -155,11 +157,11 @@ impl Tableau {
         })
     }
 
-    /// Adds a number, the sum of the terms; its range is 0 alone. Terms of numbers that were not
-    /// given count for nothing. Out of memory the tableau is of no further use.
+    /// Adds a row: a variable that is the sum of the terms, with the range 0 alone. Terms of variables that
+    /// were not given are ignored. If memory runs out, the tableau is no longer usable.
     pub fn push_row(&mut self, terms: &[Term]) -> Result<(), Memory> {
         let row = self.basics.len();
-        let number = Number::at(Place::Row(row), shift_of(terms));
+        let number = Number::new(Place::Row(row), shift_of(terms));
         let basic = Basic {
             number: self.numbers.len(),
             value: 0,
@@ -173,7 +175,7 @@ impl Tableau {
         Ok(())
     }
 
-    /// Puts the terms of a row, whose entries are 0, into its entries and its value.
+    /// Adds the terms of a row, whose entries are 0, to its entries, and computes its value.
     pub(crate) fn fill(&mut self, row: usize, unit: i64) {
         let mut value: i64 = 0;
         for index in 0..self.equations.row(row).len() {
@@ -191,7 +193,7 @@ impl Tableau {
         }
     }
 
-    /// Adds so many times the number at the place to a row.
+    /// Adds a multiple of the variable at the place to a row.
     fn put(&mut self, row: usize, rate: i64, place: Place) {
         match place {
             Place::Column(column) => {
@@ -201,7 +203,7 @@ impl Tableau {
             Place::Row(other) => {
                 let columns = self.columns.len();
                 for column in 0..columns {
-                    let by = times(rate, self.entries.at(other, column));
+                    let by = times(rate, self.entries.entry(other, column));
                     self.entries.add(row, column, by);
                 }
                 self.spend(columns);
@@ -209,10 +211,10 @@ impl Tableau {
         }
     }
 
-    /// Gives a number its range, or the low end alone where the high one is below it.
+    /// Sets the range of a variable, to `low` alone if `high` is below it.
     ///
-    /// An end beyond 2^21, times the greatest rate of a row, counts as that. Nothing happens to a
-    /// number that there is not.
+    /// An end whose absolute value exceeds 2^21 times the greatest coefficient of the row is cut to that. An
+    /// unknown variable is ignored.
     pub fn set_range(&mut self, number: usize, low: i64, high: i64) {
         let old = self.number(number);
         let mut new = old;
@@ -232,7 +234,7 @@ impl Tableau {
         }
     }
 
-    /// Moves the number of a column.
+    /// Moves the variable of a column, and updates the cost and the rows.
     pub(crate) fn shift(&mut self, column: usize, by: i64) {
         let Some(&moved) = self.columns.get(column) else {
             return;
@@ -245,7 +247,7 @@ impl Tableau {
         self.spend(rows);
         let mut row: usize = 0;
         for basic in &mut self.basics {
-            let entry = self.entries.at(row, column);
+            let entry = self.entries.entry(row, column);
             if entry != 0 {
                 basic.value = basic.value.wrapping_add(times(entry, by));
             }
@@ -253,15 +255,15 @@ impl Tableau {
         }
     }
 
-    /// A number; one of range 0, in no column, where there is none.
+    /// A variable, or one with the range 0 in no column if there is none.
     pub(crate) fn number(&self, number: usize) -> Number {
         match self.numbers.get(number) {
             Some(number) => *number,
-            None => Number::at(Place::Column(usize::MAX), 0),
+            None => Number::new(Place::Column(usize::MAX), 0),
         }
     }
 
-    /// Where a number stands.
+    /// The current value of a variable.
     pub(crate) fn raw(&self, number: usize) -> i64 {
         let number = self.number(number);
         match number.place {
@@ -273,7 +275,7 @@ impl Tableau {
         }
     }
 
-    /// Counts work.
+    /// Adds to the work.
     pub(crate) fn spend(&mut self, work: usize) {
         self.work = self.work.saturating_add(work as u64);
     }

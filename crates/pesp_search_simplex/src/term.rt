@@ -1,8 +1,10 @@
 //! Terms.
 
-/// So many times a number by index.
+/// A multiple of a variable.
 #[derive(Clone, Copy)]
 pub struct Term {
+    /// The index of the variable.
     pub number: usize,
+    /// Its coefficient.
     pub rate: i32,
 }

@@ -3,7 +3,8 @@ use Rattle.std.proofs.Common.{◌≡◌, refl, true, false, [], ◌∷◌, Some,
 use Rattle.std.specs.Prelude.{option_map, pos}
 use Rattle.std.specs.Str.Parse.{signed_digits_value}
 use Rattle.clap.specs.Takes.{is_given, takes}
-use Rattle.clap.specs.Words.{first_of}
+use Rattle.clap.specs.Words.{fault_of, first_of}
+use Rattle.clap.specs.declared.error.kind.ErrorKind.TheVariants.{DisplayVersion}
 use Rattle.clap.proofs.OnLiterals.{clap_on_literals}
 use Rattle.pesp_shell.specs.Settings.{matched, pespbench}
 
@@ -41,6 +42,15 @@ asked_activities = refl
 fixed_file : first_of (codes "fixed") (matched (codes "pespbench" ∷ codes "--times" ∷ codes "t" ∷ codes "--fixed" ∷ codes "f" ∷ [])) ≡ Some (codes "f")
 unfolding pespbench clap_on_literals
 fixed_file = refl
+
+-- a request for the version, in both forms, is none for anything else
+asked_version : fault_of pespbench (codes "pespbench" ∷ codes "--version" ∷ []) ≡ DisplayVersion ∷ []
+unfolding pespbench clap_on_literals
+asked_version = refl
+
+asked_shortly : fault_of pespbench (codes "pespbench" ∷ codes "-V" ∷ []) ≡ DisplayVersion ∷ []
+unfolding pespbench clap_on_literals
+asked_shortly = refl
 
 -- a period within the limits is taken, and 1 and a word are not
 taken : takes pespbench (codes "pespbench" ∷ codes "--period" ∷ codes "2" ∷ []) ≡ true

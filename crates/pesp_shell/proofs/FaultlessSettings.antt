@@ -7,7 +7,7 @@ use Rattle.clap.specs.Kinds.{Kinds, or_else, range_kinds, value_kinds}
 use Rattle.clap.specs.Values.{IsSignedIn}
 use Rattle.clap.specs.ValueTests.{accepts}
 use Rattle.clap.specs.Lexer.{without_minus}
-use Rattle.clap.specs.Simple.{argument_words, built, entered, filled, help_rule, matches_of, names_of, with_index}
+use Rattle.clap.specs.Simple.{argument_words, built, entered, filled, help_rule, matches_of, names_of, version_rule, with_index}
 use Rattle.clap.specs.Takes.{is_given}
 use Rattle.clap.specs.Faults.{action_fault, entered_fault, fault_of, repeat_fault, values_fault}
 use Rattle.clap.specs.Walk.{Row, Rule, Text, first_of, has_row, nothing_held, one_of, settled, values_or_missing, walk, with_default, with_values, without}
@@ -113,6 +113,9 @@ activities = with_index 1 (filled activities_rule)
 abbrev help : Rule
 help = with_index 1 (filled help_rule)
 
+abbrev version : Rule
+version = with_index 1 (filled version_rule)
+
 one_period : (text : Text) (rows : List Row) → or_else (repeat_fault false (codes "period") rows) (or_else (value_kinds false (Signed (pos least_period) (pos greatest_period)) text) []) ≡ []
     → AreGiven rows → AreGiven (with_values (codes "period") WithoutMinus CommandLine (text ∷ []) (without (codes "period") rows))
 one_period text rows e g =
@@ -161,12 +164,12 @@ activities_keeps values rows e g =
     other_keeps (codes "ACTIVITIES") (values_or_missing activities values) rows (values_fault activities (values_or_missing activities values)) refl refl f.1 g
 
 abbrev arguments : List Rule
-arguments = period ∷ (file (codes "fixed") ∷ (file (codes "times") ∷ (check ∷ (activities ∷ (help ∷ [])))))
+arguments = period ∷ (file (codes "fixed") ∷ (file (codes "times") ∷ (check ∷ (activities ∷ (help ∷ (version ∷ []))))))
 
 all_keep : AllKeep AreGiven false arguments
 all_keep = (
   period_keeps,
-  (file_keeps (codes "fixed") refl refl, (file_keeps (codes "times") refl refl, (check_keeps, (activities_keeps, ((λ values rows e g. g), tt))))),
+  (file_keeps (codes "fixed") refl refl, (file_keeps (codes "times") refl refl, (check_keeps, (activities_keeps, ((λ values rows e g. g), ((λ values rows e g. g), tt)))))),
 )
 
 -- ---- with defaults
@@ -265,9 +268,12 @@ with_activities rows has = no_default AreReady (has_row (codes "ACTIVITIES") row
 with_help : (rows : List Row) → AreReady rows → AreReady (with_default rows help)
 with_help rows has = no_default AreReady (has_row (codes "help") rows) rows has
 
+with_version : (rows : List Row) → AreReady rows → AreReady (with_default rows version)
+with_version rows has = no_default AreReady (has_row (codes "version") rows) rows has
+
 with_defaults : (rows : List Row) → AreGiven rows → AreReady (fold with_default rows arguments)
 with_defaults rows given =
-    with_help _ (with_activities _ (with_check _ (with_file (codes "times") _ (with_file (codes "fixed") _ (with_period rows given)))))
+    with_version _ (with_help _ (with_activities _ (with_check _ (with_file (codes "times") _ (with_file (codes "fixed") _ (with_period rows given))))))
 
 -- a line without a fault has the rows of the period and of the flag
 line_is_ready : (words : List Text) → fault_of pespbench words ≡ [] → AreReady (matches_of pespbench words)

@@ -1,8 +1,9 @@
 -- The command line `pespbench [--period T] [--fixed FILE] [--times FILE] [--check] [ACTIVITIES]`,
--- and what it asks for.
-use Rattle.std.specs.Prelude.{◌≡◌, false, List, [], ◌∷◌, Some, option_map, codes, pos}
+-- which also answers `--version`, and what it asks for.
+use Rattle.std.specs.Prelude.{◌≡◌, false, true, List, [], ◌∷◌, Some, option_map, codes, pos}
 use Rattle.std.specs.Str.Parse.{signed_digits_value}
 use Rattle.clap.specs.Takes.{is_given}
+use Rattle.clap.specs.Simple.{on_top}
 use Rattle.clap.specs.Words.{App, Row, Rule, Text, first_of, matches_of, new_app, new_rule, with_rule}
 use Rattle.clap.specs.declared.builder.ArgAction.TheVariants.{SetTrue}
 use Rattle.clap.specs.declared.builder.ValueParser.TheVariants.{Signed}
@@ -33,9 +34,13 @@ check_rule = record (new_rule (codes "check")) {
 abbrev pub activities_rule : Rule
 activities_rule = new_rule (codes "ACTIVITIES")
 
+-- the command before it has arguments, which answers `--version`
+abbrev pub versioned : App
+versioned = on_top (λ s. record s { has_version = true }) (new_app (codes "pespbench"))
+
 -- the command, with its arguments in the order in which help shows them
 unfoldable pub pespbench : App
-pespbench = with_rule (with_rule (with_rule (with_rule (with_rule (new_app (codes "pespbench")) period_rule)
+pespbench = with_rule (with_rule (with_rule (with_rule (with_rule versioned period_rule)
     (file_rule (codes "fixed"))) (file_rule (codes "times"))) check_rule) activities_rule
 
 -- what the words give each argument of the command

@@ -14,7 +14,7 @@ use pesp_shell_io::{ByteSink, ByteSource, Failed, LineReader, put_all};
 use pesp_shell_replies::reply_to_line;
 use std::alloc::Global;
 
-/// Answers the line of this number. The reply is whole before its first byte is written.
+/// Answers the line with this number. The reply is complete before its first byte is written.
 pub(crate) fn answer<K: Keeper, W: ByteSink>(
     alloc: Global,
     bench: &mut Bench<K>,
@@ -35,7 +35,7 @@ pub(crate) fn answer<K: Keeper, W: ByteSink>(
     }
 }
 
-/// Answers the last line, where there is one, and passes all replies on.
+/// Answers the last line, if there is one, and flushes all replies.
 pub(crate) fn answer_last<K: Keeper, W: ByteSink>(
     alloc: Global,
     bench: &mut Bench<K>,
@@ -67,7 +67,8 @@ fn finish<W: ByteSink>(sink: &mut W) -> Result<(), RunFault>
     }
 }
 
-/// Ends after the greatest number of lines, where no byte is left.
+/// Ends the run after the greatest number of lines, if no byte is left. One more is read to find
+/// out.
 pub(crate) fn end<R: ByteSource, W: ByteSink>(
     lines: &mut LineReader,
     source: &mut R,

@@ -1,4 +1,4 @@
-//! What the command line asks for.
+//! What a command line asks for.
 
 use pesp_base::Period;
 
@@ -12,6 +12,6 @@ pub struct Settings<'a> {
     pub times: Option<&'a str>,
     /// The file of activities; without one, there are none.
     pub activities: Option<&'a str>,
-    /// Tensions, violations and cost are asked for, in place of commands.
+    /// Whether to check, which gives tensions, violations and cost, instead of reading commands.
     pub check: bool,
 }

@@ -28,7 +28,7 @@ fn put_assessment(text: &mut Vec<u8>, assessment: &Assessment) -> Result<(), All
     put_cost(text, assessment.cost)
 }
 
-/// The reply of a refusal of all three.
+/// The replies if all three are refused.
 fn put_refusals(text: &mut Vec<u8>, refusal: &Refusal) -> Result<(), AllocError>
     ensures { OnOk result (appended text.old.items
         (joined (refusal_text refusal.now)
@@ -39,10 +39,10 @@ fn put_refusals(text: &mut Vec<u8>, refusal: &Refusal) -> Result<(), AllocError>
     put_refusal(text, *refusal)
 }
 
-/// The replies to `tensions`, `violations` and `cost` of an instance by a timetable of its period, from
-/// one walk over the activities.
+/// The replies to `tensions`, `violations` and `cost` of an instance and a timetable of its period,
+/// from one walk over the activities.
 ///
-/// An event without a time makes each reply that of refusal 11. The one error is want of memory.
+/// If an event has no time, each reply is that of refusal 11. The only error is out of memory.
 pub fn three_replies(
     alloc: Global,
     instance: &Instance,
@@ -59,11 +59,11 @@ pub fn three_replies(
     Ok(text)
 }
 
-/// The replies to `tensions`, `violations` and `cost`, for files of activities, of fixed times and of
-/// times.
+/// The replies to `tensions`, `violations` and `cost`, for files of activities, of fixed times and
+/// of times.
 ///
-/// Without fixed times no event is fixed, and without times the timetable is empty. An event without
-/// a time makes each reply that of refusal 11, which is no fault. Faults in order: the file of
+/// Without fixed times no event is fixed, and without times the timetable is empty. If an event has
+/// no time, each reply is that of refusal 11, which is not a fault. Faults in order: the file of
 /// activities, that of fixed times, that of times, out of memory.
 pub fn check(
     alloc: Global,

@@ -8,6 +8,7 @@ mod opening;
 mod options;
 mod run_fault;
 mod session;
+mod version;
 
 pub use arguments::Settings;
 pub use checking::{check, three_replies};

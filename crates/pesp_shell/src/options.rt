@@ -3,9 +3,10 @@
 ghost use Rattle.std.specs.Prelude.{◌≡◌, IfOk, IfErr, true, false};
 ghost use Rattle.clap.specs.Walk.{texts};
 ghost use Rattle.clap.specs.Words.{FailsBy, app_of, fault_of, kind_of, rule_of, takes};
-ghost use Rattle.pesp_shell.specs.Settings.{AreSettings, file_rule, period_rule, pespbench};
+ghost use Rattle.pesp_shell.specs.Settings.{AreSettings, check_rule, file_rule, period_rule, pespbench};
 
 use crate::Settings;
+use crate::version::VERSION;
 use clap::error::ErrorKind;
 use clap::{Arg, ArgAction, Command, Error};
 use pesp_base::{GREATEST_PERIOD, LEAST_PERIOD, Period};
@@ -31,7 +32,7 @@ Columns of the files:
 Example:
   printf 'fix 1 0\\ndomains\\n' | pespbench --period 10 examples/two-trains/activities
 
-Exit status: 0 done, or help; 1 a fault, which standard error tells; 2 refused arguments.
+Exit status: 0 done, help or version; 1 a fault, named on standard error; 2 refused arguments.
 
 docs/FORMATS.md has each command, reply and fault, man/pespbench.1 is the manual page, and examples/ has stories.";
 
@@ -70,6 +71,17 @@ fn file_option<'a>(alloc: Global, name: &'a str, help: &'a str) -> Arg<'a>
         .help(help)
 }
 
+/// `--check`.
+fn check_option<'a>(alloc: Global) -> Arg<'a>
+    ensures rule { rule_of result ≡ check_rule }
+    ensures local { result.global ≡ false }
+{
+    Arg::new(alloc, CHECK)
+        .long(CHECK)
+        .help("Print tensions, violations and cost of the times, and read no commands")
+        .action(ArgAction::SetTrue)
+}
+
 /// The command; none of its arguments has a rule on another one.
 fn command<'a>(alloc: Global) -> Result<Command<'a>, AllocError>
     ensures { IfOk result (λ c. app_of c ≡ pespbench) }
@@ -77,12 +89,10 @@ fn command<'a>(alloc: Global) -> Result<Command<'a>, AllocError>
     let period = period_option(alloc);
     let fixed = file_option(alloc, FIXED, "The file of fixed times");
     let times = file_option(alloc, TIMES, "The file of the events' times");
-    let check = Arg::new(alloc, CHECK)
-        .long(CHECK)
-        .help("Print tensions, violations and cost of the times, and read no commands")
-        .action(ArgAction::SetTrue);
+    let check = check_option(alloc);
     let activities = Arg::new(alloc, ACTIVITIES).help("The file of activities");
     let command = Command::new(alloc, "pespbench")
+        .version(VERSION)
         .about("A workbench for periodic railway timetables")
         .after_help(MORE_HELP)
         .arg(period)?
@@ -95,7 +105,7 @@ fn command<'a>(alloc: Global) -> Result<Command<'a>, AllocError>
 
 /// What the words of a command line ask for; the first word is the program's name.
 ///
-/// The error's kind tells a question for help, refused words and out of memory apart.
+/// The error's kind distinguishes a request for help or the version, refused words and out of memory.
 pub fn settings<'a>(alloc: Global, words: &'a [&'a str]) -> Result<Settings<'a>, Error>
     ensures settings { IfOk result (AreSettings (texts words.entry.now)) }
 

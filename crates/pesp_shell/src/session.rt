@@ -44,10 +44,10 @@ fn answer_all<K: Keeper, R: ByteSource, W: ByteSink>(
     end(lines, source, sink)
 }
 
-/// Answers the commands of a stream over a workbench, as [`run`] does over the one that its files open.
+/// Answers the commands of a stream over a workbench, as [`run`] does over that of its files.
 ///
-/// Nothing asks for files here, so their bytes may be let go before. Faults in order: out of memory at
-/// line 0; then those of lines and devices, as `run` has them.
+/// The files are not used here, so their bytes may be freed before. Faults in order: out of memory
+/// at line 0; then those of lines and devices, as for `run`.
 pub fn serve<K: Keeper, R: ByteSource, W: ByteSink>(
     alloc: Global,
     mut bench: Bench<K>,
@@ -68,10 +68,11 @@ pub fn serve<K: Keeper, R: ByteSource, W: ByteSink>(
 
 /// Runs the commands of a stream over the instance and the timetable of the files.
 ///
-/// The reply to a line is whole before its first byte is written, and is written before more of the
-/// stream is taken. Without fixed times no event is fixed, and without times the timetable is empty.
-/// Faults in order: the files, out of memory at line 0; then, at the first line that has one,
-/// `TooManyLines`, `LineTooLong`, out of memory, or a device that failed. No device is used after a fault.
+/// The reply to a line is complete before its first byte is written, and is written before more of
+/// the stream is read. Without fixed times no event is fixed, and without times the timetable is
+/// empty. Faults in order: the files, out of memory at line 0; then, at the first line that has
+/// one, `TooManyLines`, `LineTooLong`, out of memory, or a device that failed. No device is used
+/// after a fault.
 pub fn run<K: Keeper, R: ByteSource, W: ByteSink>(
     alloc: Global,
     period: Period,

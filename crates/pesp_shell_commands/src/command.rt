@@ -1,4 +1,4 @@
-//! What a line may ask for.
+//! The commands of the workbench.
 
 use pesp_base::EventId;
 use pesp_instance::Edit;
@@ -26,7 +26,7 @@ pub enum Command {
     Cost,
     /// The best timetable.
     Optimum,
-    /// The best timetable, looked for in at most so many nodes of a search.
+    /// The best timetable, searched for in at most this number of nodes.
     TryOptimum(u64),
     /// The script that builds the instance.
     Dump,

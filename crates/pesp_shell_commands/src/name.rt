@@ -34,7 +34,7 @@ pub(crate) enum Name {
     Dump,
 }
 
-/// The words of each command, in the order in which they are looked for.
+/// The words of each command, in the order in which they are compared.
 const NAMES: [(&[&[u8]], Name); 21] = [
     (&[b"add", b"event"], Name::AddEvent),
     (&[b"drop", b"event"], Name::DropEvent),
@@ -59,7 +59,7 @@ const NAMES: [(&[&[u8]], Name); 21] = [
     (&[b"dump"], Name::Dump),
 ];
 
-/// Whether two words may be the same, by their first bytes.
+/// Whether two words may be equal, judged by their first bytes.
 fn may_equal(own: &[u8], word: &[u8]) -> bool
     ensures { result ≡ false → bytes_eq own.now word.now ≡ false }
 {
@@ -69,7 +69,9 @@ fn may_equal(own: &[u8], word: &[u8]) -> bool
     }
 }
 
-/// Whether words begin with a command's own ones. Most names are told apart by a letter.
+/// Whether words begin with those of a command. The first letter excludes most names, so it is
+/// compared first. A column of first letters was not built: docs/HISTORY.md has its gain under
+/// "Bytes of files freed once read".
 fn begin_with(own: &'static [&'static [u8]], words: &[&[u8]]) -> bool
     ensures { result ≡ starts_with bytes_eq (texts words.now) (texts own.now) }
 {
@@ -81,7 +83,7 @@ fn begin_with(own: &'static [&'static [u8]], words: &[&[u8]]) -> bool
     words.starts_with(&*own)
 }
 
-/// The words after a command's own ones, where the words begin with these.
+/// The words after those of a command, if the words begin with them.
 fn numbers_after<'a>(own: &'static [&'static [u8]], words: &'a [&'a [u8]]) -> Option<Numbers<'a>>
     requires { length own.now ≤ 2 }
     ensures begins { is_some result ≡ starts_with bytes_eq (texts words.now) (texts own.now) }
@@ -90,13 +92,13 @@ fn numbers_after<'a>(own: &'static [&'static [u8]], words: &'a [&'a [u8]]) -> Op
     ensures place { IfSome result (λ a. a.place ≡ length own.now + 1) }
 {
     if begin_with(own, words) {
-        Some(Numbers::after(words, own.len()))
+        Some(Numbers::from_words(words, own.len()))
     } else {
         None
     }
 }
 
-/// The first of the commands that the words name, and the words after its name.
+/// The first of the commands that the words begin with, and the words after its name.
 fn first_named<'a>(
     names: &[(&'static [&'static [u8]], Name)],
     words: &'a [&'a [u8]],
@@ -115,7 +117,7 @@ fn first_named<'a>(
 }
 
 /// The command that the words name, and the words after its name.
-pub(crate) fn named<'a>(words: &'a [&'a [u8]]) -> Option<(Name, Numbers<'a>)>
+pub(crate) fn find_name<'a>(words: &'a [&'a [u8]]) -> Option<(Name, Numbers<'a>)>
     ensures form { form_found result ≡ form_of (texts words.now) }
     ensures numbers { IfSome result (λ p. AreAfter (texts words.now) (form_for p.0) p.1) }
 {

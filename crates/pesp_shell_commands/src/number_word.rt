@@ -15,7 +15,7 @@ use pesp_base::{
     NumberFault, Weight, number_between,
 };
 
-/// The number of the word at a place, where it is within the limits.
+/// The number of the word at a place, if it is within the limits.
 fn number_at(place: u8, word: &[u8], low: i64, high: i64) -> Result<i64, ParseFault>
     requires low { neg_ℤ (pos number_cap) <ℤ low }
     requires high { high <ℤ pos number_cap }
@@ -33,7 +33,7 @@ fn number_at(place: u8, word: &[u8], low: i64, high: i64) -> Result<i64, ParseFa
     }
 }
 
-/// The number of the word at a place, where it is from 0 to a limit.
+/// The number of the word at a place, if it is from 0 to a limit.
 fn natural_at(place: u8, word: &[u8], greatest: u64) -> Result<u64, ParseFault>
     requires { greatest ≤ GREATEST_LIMIT }
     ensures no_fault { IfOk result (λ number.

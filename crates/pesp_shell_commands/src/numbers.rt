@@ -29,17 +29,22 @@ fn span_between(lower: i32, upper: i32) -> Result<Span, ParseFault>
 /// The words of an activity's numbers.
 #[derive(Clone, Copy)]
 struct ActivityWords<'a> {
-    // In the order of the line, and none of them read yet.
+    // The number of the activity. No word is parsed yet.
     id: &'a [u8],
+    // The number of the event that it leads from.
     from: &'a [u8],
+    // The number of the event that it leads to.
     to: &'a [u8],
+    // The lower bound of its span.
     lower: &'a [u8],
+    // The upper bound of its span.
     upper: &'a [u8],
+    // Its weight.
     weight: &'a [u8],
 }
 
 impl ActivityWords<'_> {
-    /// The activity, where the first of the words stands at the place.
+    /// The activity, whose first word is at this place of the line.
     fn activity_at(&self, place: u8) -> Result<Activity, ParseFault>
         requires { place ≤ 3 }
         ensures no_fault { IfOk result (λ activity.
@@ -68,9 +73,9 @@ impl ActivityWords<'_> {
 /// The words after a command's name.
 #[derive(Drop)]
 pub(crate) struct Numbers<'a> {
-    // None of them is the command's name.
+    // The command's name is not among them.
     words: &'a [&'a [u8]],
-    /// The place of the first of them in the line.
+    /// The place of the first of them in the line, counted from 1.
     place: u8,
 }
 
@@ -89,9 +94,9 @@ impl<'a> Numbers<'a> {
     ghost use Rattle.pesp_shell_commands.specs.Parsed as ranges;
     ghost use Rattle.pesp_shell_commands.specs.Words.{texts};
 
-    /// The words of a line after its first ones, which are one or two.
+    /// The words of a line after its first one or two.
     #[tactic(auto, using(crate::proofs::TakenLemmas::texts_after))]
-    pub(crate) fn after(words: &'a [&'a [u8]], count: usize) -> Numbers<'a>
+    pub(crate) fn from_words(words: &'a [&'a [u8]], count: usize) -> Numbers<'a>
         requires few { count ≤ 2 }
         requires present { count ≤ length words.now }
         ensures words { result.words ≡ drop count (texts words.now) }

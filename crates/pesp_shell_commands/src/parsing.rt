@@ -1,4 +1,4 @@
-//! What a line says.
+//! The command of a line.
 
 ghost use Rattle.std.specs.Prelude.{◌≡◌};
 ghost use Rattle.pesp_shell_commands.specs.Forms as forms;
@@ -6,25 +6,26 @@ ghost use Rattle.pesp_shell_commands.specs.Parsed.{form_of, parsed, parsed_by};
 ghost use Rattle.pesp_shell_commands.specs.Words.{texts};
 
 use crate::Command;
-use crate::name::{Name, named};
+use crate::name::{Name, find_name};
 use crate::numbers::Numbers;
 use crate::words::Words;
 use pesp_instance::Edit;
 
-/// The greatest time, and the greatest length of a window, of a command.
+/// The greatest time and the greatest length of a window in a command: all that 16 bits hold.
+/// Beyond the period they are refused later.
 pub(crate) const GREATEST_TIME: u16 = 65_535;
 
-/// The greatest number of nodes of a command.
+/// The greatest limit of nodes in a command, as docs/FORMATS.md has it.
 pub(crate) const GREATEST_LIMIT: u64 = 1_000_000_000_000;
 
-/// Why a line is no command. Words are counted from 1, a command's name among them.
+/// Why a line is not a command. Words count from 1, including the command's name.
 #[derive(Clone, Copy, Debug, PartialEq, Eq)]
 pub enum ParseFault {
     /// The first word, with its second for `add` and `drop`, names no command.
     UnknownCommand,
-    /// The command takes another number of words.
+    /// The command has another number of words.
     WordCount,
-    /// The word is no number.
+    /// The word is not a number.
     BadNumber(u8),
     /// The number is outside the limits of its place.
     OutOfRange(u8),
@@ -32,8 +33,8 @@ pub enum ParseFault {
     Crossed,
 }
 
-/// What the words after a name say.
-fn said(name: Name, numbers: &Numbers<'_>) -> Result<Command, ParseFault>
+/// The command of a name and the words after it.
+fn command_named(name: Name, numbers: &Numbers<'_>) -> Result<Command, ParseFault>
     ensures { result ≡ forms.said name numbers.now }
 {
     match name {
@@ -79,24 +80,24 @@ fn said(name: Name, numbers: &Numbers<'_>) -> Result<Command, ParseFault>
     }
 }
 
-/// The command that the words make.
+/// The command of the words.
 fn command(words: &[&[u8]]) -> Result<Command, ParseFault>
     ensures { forms.as_said result ≡ parsed_by (form_of (texts words.now)) (texts words.now) }
 {
-    match named(words) {
-        Some((name, numbers)) => said(name, &numbers),
+    match find_name(words) {
+        Some((name, numbers)) => command_named(name, &numbers),
         None => Err(ParseFault::UnknownCommand),
     }
 }
 
-/// What a line says: a command, or nothing where it is blank or a comment.
+/// The command of a line, or none if it is blank or a comment.
 ///
-/// It is never refused memory. Errors, the first that applies: `UnknownCommand`, `WordCount`, `BadNumber` or
-/// `OutOfRange` from left to right, `Crossed`.
+/// Nothing is allocated. Errors, the first that applies: `UnknownCommand`, `WordCount`, `BadNumber`
+/// or `OutOfRange` from left to right, `Crossed`.
 pub fn parse(line: &[u8]) -> Result<Option<Command>, ParseFault>
     ensures { result ≡ parsed line.now }
 {
-    let words = Words::of(line);
+    let words = Words::new(line);
     let words = words.as_slice();
     let [first, ..] = words else {
         return Ok(None);

@@ -19,11 +19,11 @@ pub enum ReplayKind {
     LineTooLong,
     /// The line is the 1,000,001st.
     TooManyLines,
-    /// The line is no command.
+    /// The line is not a command.
     Parse(ParseFault),
-    /// The line is a command, but no edit.
+    /// The line is a command, but not an edit.
     NotAnEdit,
-    /// The edit is refused; out of memory is such a refusal too.
+    /// The edit is refused. Out of memory is a refusal too.
     Refused(Refusal),
 }
 
@@ -34,7 +34,7 @@ pub struct ReplayFault {
     pub kind: ReplayKind,
 }
 
-/// Makes an edit, or answers its refusal.
+/// Makes an edit, or returns its refusal.
 fn make_edit(instance: &mut Instance, edit: &Edit) -> Result<(), ReplayKind>
     ensures ok { OnOk result (or_refused (edited instance.old edit.now) ≡ Ok instance.new) }
     ensures fault { IfErr result (IsLineFault (or_refused (edited instance.old edit.now))
@@ -46,8 +46,8 @@ fn make_edit(instance: &mut Instance, edit: &Edit) -> Result<(), ReplayKind>
     }
 }
 
-/// Takes the line of this number, or answers its first fault: `TooManyLines`, `LineTooLong`, `Parse`,
-/// `NotAnEdit`, `Refused`.
+/// Makes the edit of the line with this number, or returns the line's first fault: `TooManyLines`,
+/// `LineTooLong`, `Parse`, `NotAnEdit`, `Refused`.
 fn take_line(instance: &mut Instance, number: u64, line: &[u8]) -> Result<(), ReplayKind>
     ensures ok { OnOk result (after_line number instance.old line.now ≡ Ok instance.new) }
     ensures fault { IfErr result (IsLineFault (after_line number instance.old line.now)
@@ -67,7 +67,7 @@ fn take_line(instance: &mut Instance, number: u64, line: &[u8]) -> Result<(), Re
     }
 }
 
-/// The instance that the edits of a script make from the one of this period without events.
+/// The instance that the edits of a script make of the empty one of this period.
 ///
 /// Each line is an edit that is accepted, a comment or blank. Errors, each at the first faulty line:
 /// `TooManyLines`, `LineTooLong`, `Parse`, `NotAnEdit`, `Refused`.

@@ -8,11 +8,11 @@ ghost use Rattle.pesp_shell_commands.specs.Words.{words_of, IsAtWord, texts};
 
 use std::marker::Model;
 
-/// How many words are taken from a line: one more than a command can have, so that a longer line
-/// is seen to be too long.
+/// The number of words taken from a line: one more than a command can have, so that a longer line
+/// is recognized.
 pub(crate) const MOST_WORDS: usize = 9;
 
-/// Whether the byte stands between words.
+/// Whether the byte separates words.
 fn is_space(byte: u8) -> bool
     ensures { result ≡ bytes.is_space byte }
 {
@@ -33,7 +33,7 @@ fn skip_spaces(text: &[u8]) -> &[u8]
     rest
 }
 
-/// How many bytes stand before the first space.
+/// The number of bytes before the first space.
 fn length_of_word(text: &[u8]) -> usize
     ensures { result ≡ position_or_len bytes.is_space text.now }
 {
@@ -58,9 +58,9 @@ fn first_word(text: &[u8]) -> Option<(&[u8], &[u8])>
 /// The first words of a line, [`MOST_WORDS`] of them at most.
 #[derive(Drop)]
 pub(crate) struct Words<'a> {
-    // The first `count` are words of the line, the others empty.
+    // The first `count` are words of the line, the others empty. An array needs no memory.
     words: [&'a [u8]; MOST_WORDS],
-    // At most MOST_WORDS; where it is as many, more may follow.
+    // At most MOST_WORDS. If it is equal, more words may follow.
     count: usize,
 }
 
@@ -73,7 +73,7 @@ impl<'a> Model for Words<'a> {
 }
 
 impl<'a> Words<'a> {
-    pub(crate) fn of(line: &'a [u8]) -> Words<'a>
+    pub(crate) fn new(line: &'a [u8]) -> Words<'a>
         ensures { result ≡ take MOST_WORDS (words_of line.now) }
     {
         let mut words: [&[u8]; MOST_WORDS] = [&[]; MOST_WORDS];

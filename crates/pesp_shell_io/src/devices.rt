@@ -1,7 +1,8 @@
 //! Where commands come from and where replies go.
 //!
-//! std's readers and writers keep no record of a failure, of an end or of a flush, so a contract over them could
-//! not say that one came. [`Noted`] keeps the first two, and [`Flush`] tells the third.
+//! std's readers and writers keep no record of a failure, of the end or of a flush, so a contract
+//! over them cannot say that one happened. [`Noted`] records the first two, and [`Flush`] makes the
+//! third known.
 
 ghost use Rattle.std.specs.Prelude.{◌≡◌, ℕ, ◌<◌, ⊤, Bool, true, false, List, Option, length, IfOk, IsTrue, OnOk, OnErr};
 ghost use Rattle.std.specs.Io.KnownBytes.{Keeps, ReadConsumes, WriteAppends};
@@ -17,18 +18,19 @@ pub struct Failed;
 
 /// Where bytes come from.
 pub trait ByteSource {
-    /// The bytes that are left, where they are known.
+    /// The remaining bytes, if they are known.
     ghost left: { Self → Option (List ℕ) };
 
     /// Whether a call failed.
     ghost failed: { Self → Bool };
 
-    /// Whether the last call with some room found the end.
+    /// Whether the last call with any room found the end.
     ghost at_end: { Self → Bool };
 
-    /// Puts bytes into the front of the room, and answers how many: 0 at the end, or where there is no room.
+    /// Writes bytes to the front of the room, and returns their number: 0 at the end, or if there
+    /// is no room.
     ///
-    /// After a call that failed there is no other.
+    /// No call may follow a failed one.
     fn take(&mut self, room: &mut [u8]) -> Result<usize, Failed>
         requires { failed self.old ≡ false }
         ensures count { ReadsAtMost result room.new }
@@ -39,21 +41,21 @@ pub trait ByteSource {
 
 /// Where bytes go.
 pub trait ByteSink {
-    /// The bytes that were taken, where they are known.
+    /// The accepted bytes, if they are known.
     ghost written: { Self → Option (List ℕ) };
 
     /// Whether a call failed.
     ghost failed: { Self → Bool };
 
-    /// Whether all bytes that were taken are passed on.
+    /// Whether all accepted bytes are passed on.
     ghost passed_on: { Self → Bool };
 
-    /// What a flush of the device leaves, and nothing else is known to.
+    /// What holds after a flush of the device, and follows from nothing else.
     ghost is_flushed: { Self → Type 0 } = { λ _. ⊤ };
 
-    /// Takes bytes from the front, one at least where there is one, and answers how many.
+    /// Accepts bytes from the front, at least one if there is one, and returns their number.
     ///
-    /// After a call that failed there is no other, neither of this nor of `finish`.
+    /// No call may follow a failed one, neither of this nor of `finish`.
     fn put(&mut self, bytes: &[u8]) -> Result<usize, Failed>
         requires { failed self.old ≡ false }
         ensures count { WritesAtMost result bytes.now }
@@ -62,7 +64,7 @@ pub trait ByteSink {
         ensures held { MarksHeldBack result (passed_on self.old) (passed_on self.new) }
         ensures failure { MarksFailure result (failed self.old) (failed self.new) };
 
-    /// Passes on what it holds back, by a flush. Where it is not called, what was taken may be held back.
+    /// Flushes the device. Before that, it may hold back accepted bytes.
     fn finish(&mut self) -> Result<(), Failed>
         requires { failed self.old ≡ false }
         ensures bytes { Keeps (written self.old) (written self.new) }
@@ -72,9 +74,9 @@ pub trait ByteSink {
         ensures failure { MarksFailure result (failed self.old) (failed self.new) };
 }
 
-/// A writer whose flushes can be told.
+/// A writer whose flushes a contract can mention.
 pub trait Flush: Write {
-    /// What a flush leaves, and nothing else is known to.
+    /// What holds after a flush, and follows from nothing else.
     ghost is_flushed: { Self → Type 0 };
 
     /// Flushes the writer.
@@ -93,16 +95,17 @@ impl<W: Write> Flush for W {
     }
 }
 
-/// A reader or a writer, with a note of a failure, of the end, and of whether all that was written is flushed.
+/// A reader or a writer that records a failure, the end, and whether all that was written is
+/// flushed.
 #[derive(Drop)]
 pub struct Noted<D> {
-    // Nothing else calls it.
+    // Called only through this type.
     device: D,
-    // Set by a call that failed, and never cleared.
+    // Set by a failed call, and never cleared.
     failed: bool,
-    // Whether the last read with room gave nothing.
+    // Whether the last read with any room returned no byte.
     at_end: bool,
-    // Whether a flush succeeded and nothing was taken by the device since.
+    // Whether a flush succeeded, and the device accepted nothing since.
     passed_on: bool,
 }
 
@@ -123,7 +126,7 @@ impl<D> Noted<D> {
         }
     }
 
-    /// Marks a failure, which is then to be answered.
+    /// Records a failure, and returns it.
     fn fail(&mut self) -> Failed
         ensures device { device_of self.new ≡ device_of self.old }
         ensures failed { has_failed self.new ≡ true }
@@ -151,6 +154,7 @@ impl<R: Read> ByteSource for Noted<R> {
                 }
                 Ok(count)
             }
+            // An interrupted read is a failure too, because the program handles no signal.
             Err(_) => Err(self.fail()),
         }
     }

@@ -13,24 +13,26 @@ use memchr::memchr;
 use std::alloc::{AllocError, Global};
 use std::marker::Model;
 
-/// How many bytes are held at most: more than a line of the greatest length with its line feed.
+/// The size of the buffer in bytes, more than the longest line with its line feed. It trades memory
+/// for fewer reads; no measurement chose it.
 const ROOM: usize = 65_536;
 
-/// What stands at the front of the bytes that are held.
+/// What the held bytes begin with.
 #[derive(Clone, Copy, Debug, PartialEq, Eq)]
 pub enum Front {
-    /// A line of so many bytes, and its line feed.
+    /// A line of this number of bytes, and its line feed.
     Line(usize),
-    /// The source is at its end: what is held is the last line, or nothing.
+    /// The source is at its end: the held bytes are the last line, or there are none.
     Last,
-    /// A line with more bytes than a line may have.
+    /// A line that is too long.
     TooLong,
 }
 
-/// Holds the bytes that were taken from a source and are not yet used: those from `start` to `end` of a buffer.
+/// Holds the bytes that were read from a source and not used yet: those from `start` to `end` of a
+/// buffer.
 #[derive(Drop)]
 pub struct LineReader {
-    // ROOM bytes, always.
+    // Its length is always ROOM.
     buffer: Vec<u8>,
     // At most `end`.
     start: usize,
@@ -50,7 +52,7 @@ impl Model for LineReader {
 }
 
 impl LineReader {
-    /// Holds nothing. The room that it takes is all that it ever takes.
+    /// Holds nothing. Nothing is allocated later.
     pub fn new(alloc: Global) -> Result<LineReader, AllocError>
         ensures { IfOk result (λ reader. reader ≡ []) }
     {
@@ -69,7 +71,7 @@ impl LineReader {
         &self.buffer[self.start..self.end]
     }
 
-    /// Lets bytes at the front go.
+    /// Drops bytes at the front.
     pub fn skip(&mut self, count: usize)
         requires { count ≤ length self.old }
         ensures { self.new ≡ drop count self.old }
@@ -77,7 +79,7 @@ impl LineReader {
         self.start += count;
     }
 
-    /// Takes more bytes after those that are held, and answers whether there were any.
+    /// Reads more bytes after the held ones, and returns whether there were any.
     pub fn fill<R: ByteSource>(&mut self, source: &mut R) -> Result<bool, Failed>
         requires room { length self.old < ROOM }
         requires failure { R.failed source.old ≡ false }
@@ -97,7 +99,7 @@ impl LineReader {
         Ok(count > 0)
     }
 
-    /// Takes bytes until those that are held tell what stands at their front, and none where they tell it already.
+    /// Reads until the held bytes show what they begin with. If they do already, nothing is read.
     pub fn look<R: ByteSource>(&mut self, source: &mut R) -> Result<Front, Failed>
         requires { R.failed source.old ≡ false }
         ensures front { IfOk result (IsFront self.new) }
@@ -120,7 +122,7 @@ impl LineReader {
     }
 }
 
-/// Moves the bytes from `start` to `end` to the front, and answers how many there are.
+/// Moves the bytes from `start` to `end` to the front, and returns their number.
 fn pack(buffer: &mut [u8], start: usize, end: usize) -> usize
     requires order { start ≤ end }
     requires inside { end ≤ length buffer.old }
@@ -131,14 +133,14 @@ fn pack(buffer: &mut [u8], start: usize, end: usize) -> usize
     end - start
 }
 
-/// Whether a line may have so many bytes.
+/// Whether a line may have this number of bytes.
 fn is_short(length: usize) -> bool
     ensures { IsTrue result ↔ length ≤ longest_line }
 {
     length <= LONGEST_LINE
 }
 
-/// What stands at the front, where these bytes tell it.
+/// What the held bytes begin with, if they show it.
 fn front_of(held: &[u8]) -> Option<Front>
     ensures front { MatchOption result (IsUnended held.now) (IsFront held.now) }
     ensures told { IfSome result (λ front. front ≢ fronts.Last) }

@@ -6,7 +6,7 @@ ghost use Rattle.pesp_shell_io.specs.Devices.{MarksFailure};
 
 use crate::{ByteSink, Failed};
 
-/// Puts all the bytes, in as many calls as it takes.
+/// Writes all the bytes, in as many calls as that needs.
 pub fn put_all<W: ByteSink>(sink: &mut W, bytes: &[u8]) -> Result<(), Failed>
     requires { W.failed sink.old ≡ false }
     ensures ok { OnOk result (Appends (W.written sink.old) (W.written sink.new) bytes.now) }

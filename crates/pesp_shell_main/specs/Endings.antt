@@ -34,9 +34,14 @@ IsReported c text = c.reported text ⊎ c.unreported
 abbrev pub EndsByFault : Console → Fault → ℕ → Type 0
 EndsByFault c f status = IsReported c (with_newline (text_of f)) × (status ≡ 1)
 
--- help is printed, and the status is 0, or it cannot be; what else clap says is reported, and the status is 2
+-- a text is printed, and the status is 0, or it cannot be
+abbrev pub EndsByPrinting : Console → ℕ → Type 0
+EndsByPrinting c status = (c.printed None × (status ≡ 0)) ⊎ (c.unprinted × EndsByFault c fault.NotWritten status)
+
+-- help and the version are printed; what else clap says is reported, and the status is 2
 abbrev pub EndsByWords : Console → ErrorKind → ℕ → Type 0
-EndsByWords c kind.DisplayHelp status = (c.printed None × (status ≡ 0)) ⊎ (c.unprinted × EndsByFault c fault.NotWritten status)
+EndsByWords c kind.DisplayHelp status = EndsByPrinting c status
+EndsByWords c kind.DisplayVersion status = EndsByPrinting c status
 EndsByWords c _ status = IsReported c None × (status ≡ 2)
 
 abbrev pub EndsEarly : Console → Ending → ℕ → Type 0

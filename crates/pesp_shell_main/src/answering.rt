@@ -40,7 +40,7 @@ fn write<W: ByteSink>(sink: &mut W, text: &[u8]) -> Result<(), Failed>
     sink.finish()
 }
 
-/// The instance and the timetable that the files stand for, whose bytes are let go here.
+/// The instance and the timetable of the files, whose bytes are freed here.
 fn read(
     alloc: Global,
     settings: &Settings,
@@ -128,7 +128,8 @@ fn serve_files<R: ByteSource, W: ByteSink>(
     serve(alloc, bench, source, sink)
 }
 
-/// Answers what the settings ask for, of these files, whose bytes are let go once they are read.
+/// Answers what the settings ask for, from these files. Their bytes are freed once they are read:
+/// docs/HISTORY.md, "Bytes of files freed once read".
 pub fn answer_files<R: ByteSource, W: ByteSink>(
     alloc: Global,
     settings: &Settings,

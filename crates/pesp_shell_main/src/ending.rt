@@ -17,7 +17,7 @@ const REFUSED: u8 = 2;
 /// Why there are no replies.
 #[derive(Debug, Drop)]
 pub enum Ending {
-    /// Help was asked for, or the words of the command line were refused.
+    /// Help or the version was asked for, or the words of the command line were refused.
     Words(clap::Error),
     /// A word of the command line is not UTF-8.
     NotText,
@@ -44,13 +44,13 @@ impl Ending {
     }
 }
 
-/// Help goes to standard output.
+/// Help and the version go to standard output.
 fn report_words<M: Messages>(messages: &M, error: &clap::Error) -> ExitCode
     ensures { EndsByWords
         (console (M.printed messages.now) (M.reported messages.now) (M.unprinted messages.now) (M.unreported messages.now))
         (kind_of error.now) (exit_status result) }
 {
-    if error.kind() == ErrorKind::DisplayHelp {
+    if !error.use_stderr() {
         return match messages.print_text(error) {
             Ok(()) => ExitCode::SUCCESS,
             Err(_) => report_fault(messages, Fault::NotWritten),

@@ -20,7 +20,8 @@ pub enum Fault {
     TooManyLines,
 }
 
-/// Each text is one line of standard error.
+/// Each text is one line of standard error. It is written by hand, because a derived `Display` has
+/// no contract.
 impl Display for Fault {
     ghost use Rattle.pesp_shell_main.specs.Faults.{text_of};
 

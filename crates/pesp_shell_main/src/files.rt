@@ -13,7 +13,7 @@ use std::alloc::Global;
 use std::io;
 use std::io::ErrorKind;
 
-/// How many bytes a file may have.
+/// The greatest size of a file in bytes, as docs/FORMATS.md has it.
 const LONGEST: u64 = 67_108_864;
 
 fn is_too_long(length: u64) -> bool
@@ -22,10 +22,10 @@ fn is_too_long(length: u64) -> bool
     length > LONGEST
 }
 
-/// All bytes of the file at the path, where there are at most [`LONGEST`] of them.
+/// All bytes of the file at the path, if there are at most [`LONGEST`].
 ///
-/// A file that tells a greater length is refused before it is read. A pipe tells none, so at most one byte
-/// more is read, whatever the length was.
+/// A file that reports a greater length is refused before it is read. A pipe reports none, so
+/// reading stops one byte beyond the limit in any case.
 fn read_whole<P: Paths>(
     alloc: Global,
     paths: &P,
@@ -41,7 +41,7 @@ fn read_whole<P: Paths>(
     if is_too_long(length) {
         return Err(Fault::TooLong(source));
     }
-    // One byte of room beyond the end, so that the read that finds the end needs no more.
+    // One byte of room beyond the end, so that the read that finds the end does not reallocate.
     let Ok(mut bytes) = Vec::with_capacity(alloc, length as usize + 1) else {
         return Err(Fault::EARLY_MEMORY);
     };
@@ -65,7 +65,7 @@ fn fault_of(source: Source, error: &io::Error) -> Fault
     }
 }
 
-/// The bytes of the file at the path, if one is given.
+/// The bytes of the file at the path, if there is one.
 fn contents<P: Paths>(
     alloc: Global,
     paths: &P,

@@ -6,13 +6,14 @@ ghost use Rattle.std.specs.Fmt.{with_newline};
 use std::fmt::Display;
 use std::io;
 
-/// Standard output, for help, and standard error, for all else.
+/// Standard output, for help and the version, and standard error, for all else.
 pub trait Messages {
-    /// Whether standard output may have got a text. Nothing else says this, so a caller that prints another text or none
-    /// cannot claim it; nor, of those below, that printing failed where it did not.
+    /// Whether standard output may have received a text. This follows from nothing else, so a
+    /// caller that prints another text or none cannot claim it. In the same way, of those below, no
+    /// caller can claim that printing failed if it did not.
     ghost printed: { Self → Option (List ℕ) → Type 0 };
 
-    /// Whether standard error may have got a text.
+    /// Whether standard error may have received a text.
     ghost reported: { Self → Option (List ℕ) → Type 0 };
 
     /// Whether writing to standard output may have failed.
@@ -40,7 +41,7 @@ pub trait Messages {
 impl<R: Print + Eprint> Messages for R {
     ghost use Rattle.std.specs.Prelude.{⊤};
 
-    // No contract of std says what these streams got.
+    // No contract of std says what these streams received.
     ghost printed = { λ _ _. ⊤ };
 
     ghost reported = { λ _ _. ⊤ };

@@ -11,13 +11,14 @@ use std::{fs, io};
 
 /// A file that was opened.
 pub trait Contents {
-    /// The bytes that it has, where they are known.
+    /// The bytes that it has, if they are known.
     ghost whole: { Self → Option (List ℕ) };
 
-    /// Whether reading it may have failed so. Nothing else says this, so a caller for which it did not fail cannot claim it.
+    /// Whether reading it may have failed with this error. This follows from nothing else, so a
+    /// caller that saw no failure cannot claim one.
     ghost fails: { Self → ErrorKind → Type 0 };
 
-    /// Reads what it has, and at most so many bytes.
+    /// Reads the content, at most `limit` bytes of it.
     fn read_at_most(self, limit: u64, bytes: &mut Vec<u8>) -> io::Result<usize>
     where
         Self: Sized,
@@ -39,18 +40,19 @@ impl<F: Read + Drop> Contents for F {
     }
 }
 
-/// Where files come from, by their paths.
+/// Where files come from, by path.
 pub trait Paths {
     type File: Contents + Drop;
 
-    /// Whether the path may have opened the file, with the length that it tells. Nothing is known of it here, so a caller
-    /// that opens another path than it was asked for cannot keep its contract.
+    /// Whether the path may have opened the file, with the length that it reports. This follows
+    /// from nothing else, so a caller that opens another path cannot meet its contract.
     ghost opens: { Self → List ℕ → Self.File → ℕ → Type 0 };
 
-    /// Whether opening the path may have failed so.
+    /// Whether opening the path may have failed with this error.
     ghost refuses: { Self → List ℕ → ErrorKind → Type 0 };
 
-    /// Opens the file at a path, and answers it with the length that it tells; a pipe tells none.
+    /// Opens the file at a path, and returns it with the length that it reports. A pipe reports
+    /// none.
     fn open(&self, path: &str) -> io::Result<(Self::File, u64)>
         ensures opened { IfOk result (λ opened. opens self.now path.now opened.0 opened.1) }
         ensures refused { IfErr result (λ error. refuses self.now path.now (error_kind error)) };
@@ -61,7 +63,7 @@ impl<R: Files> Paths for R {
 
     type File = R::File;
 
-    // No contract of std tells the files of paths apart.
+    // No contract of std says which file is at a path.
     ghost opens = { λ _ _ _ _. ⊤ };
 
     ghost refuses = { λ _ _ _. ⊤ };

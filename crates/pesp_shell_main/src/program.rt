@@ -22,7 +22,7 @@ use std::process::ExitCode;
 use std::rt::{Env, Files};
 use std::{env, io};
 
-/// How the program ends where its words cannot be read.
+/// How the program ends if its words cannot be read.
 fn ending_without_words(error: &io::Error) -> Ending
     ensures { result ≡ wordless (error_kind error.now) }
 {
@@ -67,7 +67,7 @@ fn work<P: Paths, R: ByteSource, W: ByteSink>(
     Ok(())
 }
 
-/// Does what the words of a process ask for, where they can be read.
+/// Does what the words of a process ask for, if they can be read.
 fn work_of<P: Paths, R: ByteSource, W: ByteSink>(
     alloc: Global,
     paths: &P,
@@ -94,9 +94,9 @@ fn work_of<P: Paths, R: ByteSource, W: ByteSink>(
     work(alloc, paths, texts.as_slice(), source, sink)
 }
 
-/// The program, of the words of a process, over files, messages and streams of any kind: it does what the words ask for,
-/// and where it ends early it says why. The exit status is 0 where it did that or printed help, 2 where the words were
-/// refused, and else 1.
+/// The program with the words of a process, over files, messages and streams of any kind. It does
+/// what the words ask for, and if it ends early, it reports why. The exit status is 0 if it did so
+/// or printed help or the version, 2 if the words were refused, and else 1.
 pub fn run<S: Paths + Messages, R: ByteSource, W: ByteSink>(
     alloc: Global,
     system: &S,
@@ -126,7 +126,8 @@ fn words_of_process<R: Env + AllocGlobal>(rt: &R) -> io::Result<Vec<String>> {
     Ok(words.collect::<Vec<String>>(rt.alloc())?)
 }
 
-/// The program of a process: [`run`] of its words, of standard input and of standard output.
+/// The program of a process: [`run`] of its words, of standard input and of standard output. Both
+/// bypass std's buffers, which would delay replies.
 pub fn status<R: Env + Files + AllocGlobal + Input + Print + Eprint>(rt: &R) -> ExitCode {
     run(
         rt.alloc(),

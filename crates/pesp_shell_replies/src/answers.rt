@@ -1,4 +1,4 @@
-//! Replies to questions, which leave the work as it is.
+//! Replies to questions, which do not change the work.
 
 ghost use Rattle.std.specs.Prelude.{◌≡◌, [], ◌∷◌, IfOk, IsSome, IsTrue, OnOk};
 ghost use Rattle.pesp_shell_commands.specs.declared.command.Command.TheVariants as command;
@@ -34,7 +34,7 @@ pub(crate) fn domain<K: Keeper>(
     }
 }
 
-/// The line of an event of the instance.
+/// Appends the line of an event of the instance.
 fn put_domain<K: Keeper>(
     text: &mut Vec<u8>,
     bench: &Bench<K>,
@@ -50,7 +50,7 @@ fn put_domain<K: Keeper>(
     put_line(text, event, row, texts)
 }
 
-/// A line for each event.
+/// Appends a line for each event.
 fn put_domains<K: Keeper>(
     text: &mut Vec<u8>,
     bench: &Bench<K>,
@@ -120,8 +120,8 @@ pub(crate) fn cost<K: Keeper>(alloc: Global, bench: &Bench<K>) -> Result<Vec<u8>
     }
 }
 
-/// The optimum that a workbench knows.
-fn known<K: Keeper>(alloc: Global, bench: &Bench<K>) -> Result<Vec<u8>, AllocError>
+/// The reply with the known optimum.
+fn optimum_reply<K: Keeper>(alloc: Global, bench: &Bench<K>) -> Result<Vec<u8>, AllocError>
     requires { IsSome bench.now.known }
     ensures { IfOk result (λ text.
         LegalCommand (work_of bench.now) command.Optimum text.items (work_of bench.now)) }
@@ -137,7 +137,7 @@ pub(crate) fn optimum<K: Keeper>(alloc: Global, bench: &mut Bench<K>) -> Result<
     ensures unchanged { work_of bench.new ≡ work_of bench.old }
 {
     match bench.find_optimum(alloc) {
-        Ok(()) => known(alloc, bench),
+        Ok(()) => optimum_reply(alloc, bench),
         Err(refusal) => refusal_reply(alloc, refusal),
     }
 }
@@ -153,7 +153,7 @@ pub(crate) fn try_optimum<K: Keeper>(
     ensures unchanged { work_of bench.new ≡ work_of bench.old }
 {
     match bench.try_optimum(alloc, limit) {
-        Ok(Attempt::Done) => known(alloc, bench),
+        Ok(Attempt::Done) => optimum_reply(alloc, bench),
         Ok(Attempt::Stopped(found)) => {
             let mut text = Vec::new(alloc);
             put_stopped(&mut text, &found)?;

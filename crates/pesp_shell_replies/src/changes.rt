@@ -1,6 +1,6 @@
 //! Replies to commands that change the work.
 //!
-//! The text `ok` is written before the change is made, so that no memory is wanted after it.
+//! The text `ok` is written before the change is made, so nothing can run out of memory afterwards.
 
 ghost use Rattle.std.specs.Prelude.{◌≡◌, IfOk, OnErr, Some};
 ghost use Rattle.pesp_shell_commands.specs.declared.command.Command.TheVariants as command;
@@ -23,7 +23,7 @@ fn ok_reply(alloc: Global) -> Result<Vec<u8>, AllocError>
     Ok(text)
 }
 
-/// The reply of a refusal; out of memory has none and is passed on.
+/// The reply to a refusal. Out of memory has none, and is returned as the error.
 pub(crate) fn refusal_reply(alloc: Global, refusal: Refusal) -> Result<Vec<u8>, AllocError>
     ensures { IfOk result (λ text. refusal_text refusal ≡ Some text.items) }
 {

@@ -38,10 +38,10 @@ fn answer<K: Keeper>(
     }
 }
 
-/// Does what a command asks for, and gives the bytes of the reply.
+/// Executes a command, and returns the bytes of the reply.
 ///
-/// Where memory is wanted, the instance and the working timetable are as they were; a search may have
-/// left the optimum known.
+/// If memory runs out, the instance and the working timetable do not change; a search may have made
+/// the optimum known.
 pub fn reply<K: Keeper>(
     alloc: Global,
     bench: &mut Bench<K>,
@@ -57,7 +57,7 @@ pub fn reply<K: Keeper>(
     }
 }
 
-/// The reply to a line that is no command.
+/// The reply to a line that is not a command.
 fn fault_reply(alloc: Global, fault: ParseFault) -> Result<Vec<u8>, Memory>
     ensures { IfOk result (λ text. text.items ≡ fault_text fault) }
 {
@@ -68,10 +68,10 @@ fn fault_reply(alloc: Global, fault: ParseFault) -> Result<Vec<u8>, Memory>
     }
 }
 
-/// Does what a line says, and gives the bytes of the reply: none for a blank line or a comment.
+/// Executes a line, and returns the bytes of the reply: none for a blank line or a comment.
 ///
-/// Where memory is wanted, the instance and the working timetable are as they were. A line without a reply
-/// is never refused memory.
+/// If memory runs out, the instance and the working timetable do not change. A line without a reply
+/// never runs out of memory.
 pub fn reply_to_line<K: Keeper>(
     alloc: Global,
     bench: &mut Bench<K>,

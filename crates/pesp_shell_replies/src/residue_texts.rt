@@ -9,7 +9,7 @@ use pesplib_writer::{put, put_number};
 use std::alloc::{AllocError, Global};
 use std::marker::Model;
 
-/// One residue more.
+/// Appends one residue.
 pub(crate) fn put_residue(text: &mut Vec<u8>, residue: u16) -> Result<(), AllocError>
     ensures { OnOk result (text.new.items ≡ text.old.items ++ 32 ∷ decimal residue) }
 {
@@ -17,14 +17,15 @@ pub(crate) fn put_residue(text: &mut Vec<u8>, residue: u16) -> Result<(), AllocE
     put_number(text, u64::from(residue))
 }
 
-/// The texts of all residues of a period, made once, so that a run of them is put as one slice.
+/// The texts of all residues of a period, made once, so that a run of them is appended as one
+/// slice.
 #[derive(Drop)]
 pub(crate) struct ResidueTexts {
     // The residues are those below it.
     period: Period,
     // The residues, ascending, each after a space.
     text: Vec<u8>,
-    // Where each residue begins with its space, and then where the text ends.
+    // Where each residue begins, with its space, and then where the text ends.
     starts: Vec<usize>,
 }
 
@@ -63,8 +64,8 @@ impl ResidueTexts {
         self.period
     }
 
-    /// The residues from `low` on and below `high`.
-    fn between(&self, low: u16, high: u16) -> &[u8]
+    /// The text of the residues from `low` on and below `high`.
+    fn run_text(&self, low: u16, high: u16) -> &[u8]
         requires order { low ≤ high }
         requires within { high ≤ self.now }
         ensures { result.now ≡ spaced (range_with_len low (high - low)) }
@@ -74,16 +75,16 @@ impl ResidueTexts {
         &self.text[start..end]
     }
 
-    /// Puts the residues from `low` on and below `high`: none where `high` is not above.
+    /// Appends the residues from `low` on and below `high`: none unless `high` is greater.
     pub(crate) fn put_run(&self, text: &mut Vec<u8>, low: u16, high: u16) -> Result<(), AllocError>
         requires { high ≤ self.now }
         ensures { OnOk result (text.new.items
             ≡ text.old.items ++ spaced (range_with_len low (high - low))) }
     {
-        // Most residues of a narrow row end an empty run.
+        // In a narrow row most runs are empty.
         if high <= low {
             return Ok(());
         }
-        put(text, self.between(low, high))
+        put(text, self.run_text(low, high))
     }
 }

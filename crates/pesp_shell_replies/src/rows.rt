@@ -1,6 +1,6 @@
 //! The texts of domains and of timetables.
 //!
-//! Each function puts its text after what is written already.
+//! Each function appends its text.
 
 ghost use Rattle.std.specs.Prelude.{◌≡◌, ◌++◌, [], ◌∷◌, OnOk, length, map};
 ghost use Rattle.pesp_base.specs.Texts.{as_lines};
@@ -15,7 +15,7 @@ use pesp_tension::{EventTime, Timetable};
 use pesplib_writer::{put, put_between, put_number};
 use std::alloc::AllocError;
 
-/// An event, in front of its residues.
+/// An event, before its residues.
 fn put_event(text: &mut Vec<u8>, event: EventId) -> Result<(), AllocError>
     ensures { OnOk result (text.new.items ≡ text.old.items ++ domain_line event []) }
 {
@@ -45,7 +45,7 @@ pub(crate) fn put_row(
 
 /// A line of the reply to `domains`, from a row of the period of the texts.
 ///
-/// Each run of residues is put as one slice.
+/// Each run of residues is appended as one slice.
 pub(crate) fn put_line(
     text: &mut Vec<u8>,
     event: EventId,
@@ -57,7 +57,7 @@ pub(crate) fn put_line(
         ≡ text.old.items ++ domain_text event (residues row.now)) }
 {
     put_event(text, event)?;
-    // Where the present run begins, which may be empty.
+    // Where the current run begins. The run may be empty.
     let mut first = 0;
     for residue in 0..texts.period().get() {
         if !row.holds(residue) {
@@ -88,7 +88,7 @@ fn put_times(text: &mut Vec<u8>, times: &Timetable) -> Result<(), AllocError>
     Ok(())
 }
 
-/// A word, a cost, and how many lines follow.
+/// A word, a cost, and the number of lines that follow.
 fn put_head(text: &mut Vec<u8>, word: &[u8], cost: u64, count: usize) -> Result<(), AllocError>
     ensures { OnOk result (text.new.items
         ≡ text.old.items ++ (costed_line word.now cost count ++ 10 ∷ [])) }
@@ -98,14 +98,14 @@ fn put_head(text: &mut Vec<u8>, word: &[u8], cost: u64, count: usize) -> Result<
     put_between(text, b"", count as u64, b"\n")
 }
 
-/// How many events have a time.
+/// The number of events with a time.
 fn time_count(times: &Timetable) -> usize
     ensures { result ≡ length times.now.entries }
 {
     times.walk().count()
 }
 
-/// A word, the cost of a timetable, how many lines follow, and those.
+/// A word, the cost of a timetable, the number of lines that follow, and these lines.
 fn put_costed(
     text: &mut Vec<u8>,
     word: &[u8],
@@ -128,7 +128,7 @@ pub(crate) fn put_optimum(text: &mut Vec<u8>, answer: &Answer) -> Result<(), All
     }
 }
 
-/// The reply of a search that stopped.
+/// The reply to a search that stopped.
 pub(crate) fn put_stopped(text: &mut Vec<u8>, found: &Option<Best>) -> Result<(), AllocError>
     ensures { OnOk result (text.new.items ≡ text.old.items ++ stopped_text found.now) }
 {

@@ -1,6 +1,6 @@
 //! The texts of replies.
 //!
-//! Each function puts its text after what is written already.
+//! Each function appends its text.
 
 ghost use Rattle.std.specs.Prelude.{◌≡◌, ◌++◌, [], ◌∷◌, OnOk, Some, decimal};
 ghost use Rattle.pesp_shell_replies.specs.Replies.{appended, cost_text, fault_text, in_use_text, refusal_text, tension_line, tensions_text, violation_line, violations_text};
@@ -84,7 +84,7 @@ fn put_activity(
     put_between(text, before, u64::from(activity.get()), after)
 }
 
-/// The reply of refusal 3.
+/// The reply to refusal 3.
 fn put_in_use(text: &mut Vec<u8>, event: EventId, activity: ActivityId) -> Result<(), AllocError>
     ensures { OnOk result (text.new.items ≡ text.old.items ++ in_use_text event activity) }
 {
@@ -92,7 +92,7 @@ fn put_in_use(text: &mut Vec<u8>, event: EventId, activity: ActivityId) -> Resul
     put_activity(text, b"", activity, b"\n")
 }
 
-/// The reply of a refusal; out of memory has none and is passed on.
+/// The reply to a refusal. Out of memory has none, and is returned as the error.
 pub fn put_refusal(text: &mut Vec<u8>, refusal: Refusal) -> Result<(), AllocError>
     ensures { OnOk result (appended text.old.items (refusal_text refusal) ≡ Some text.new.items) }
 {
@@ -133,7 +133,7 @@ pub fn put_refusal(text: &mut Vec<u8>, refusal: Refusal) -> Result<(), AllocErro
     }
 }
 
-/// The reply to a line that is no command.
+/// The reply to a line that is not a command.
 pub(crate) fn put_fault(text: &mut Vec<u8>, fault: ParseFault) -> Result<(), AllocError>
     ensures { OnOk result (text.new.items ≡ text.old.items ++ fault_text fault) }
 {

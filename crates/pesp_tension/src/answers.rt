@@ -1,6 +1,6 @@
-//! What a timetable makes of an instance: tensions, violations and cost.
+//! The tensions, violations and cost of a timetable.
 //!
-//! Each answer first looks for an event without a time, and so each look-up after that finds one.
+//! Each call first looks for an event without a time, so all later look-ups find one.
 
 ghost use Rattle.std.specs.Prelude.{◌≡◌, ◌<◌, ◌≤◌, ◌*◌, ◌-◌, ◌++◌, int_le, All, Ok, IfOk, IfErr, OnOk, None, IsSome};
 ghost use Rattle.pesp_base.specs.Limits.{greatest_period, greatest_weight};
@@ -24,7 +24,7 @@ fn missing(instance: &Instance, timetable: &Timetable) -> Option<EventId>
     None
 }
 
-/// Whether an event has no time, as the refusal that names the least one.
+/// The refusal that names the least event without a time, if there is one.
 pub(crate) fn require_times(instance: &Instance, timetable: &Timetable) -> Result<(), Refusal>
     ensures { result ≡ where_timed instance.now timetable.now tt }
 {
@@ -75,7 +75,7 @@ pub(crate) fn cost_at(activity: &Activity, slack: u16) -> u64
     u64::from(activity.weight.get()) * u64::from(slack)
 }
 
-/// Whether an activity is met, whose ends have times.
+/// Whether an activity is met. Both of its ends have times.
 pub fn is_met(activity: &Activity, timetable: &Timetable) -> bool
     requires { IsTimed timetable.now activity.now }
     ensures { result ≡ meets timetable.now activity.now }
@@ -135,7 +135,7 @@ pub fn tensions(
     list_tensions(alloc, instance, timetable).map_err(|_| Refusal::Memory)
 }
 
-/// Puts the activities that are not met after the violations.
+/// Appends the activities that are not met to the violations.
 fn list_unmet(
     violations: &mut Violations,
     instance: &Instance,
@@ -153,7 +153,7 @@ fn list_unmet(
     Ok(())
 }
 
-/// Puts the events whose times are not in their windows after the violations.
+/// Appends the events whose times are not in their windows to the violations.
 pub(crate) fn list_moved(
     violations: &mut Violations,
     instance: &Instance,
@@ -185,8 +185,8 @@ fn list_violations(
     Ok(violations)
 }
 
-/// The activities that are not met, and then the events whose times are not in their windows,
-/// each in ascending order.
+/// The activities that are not met, then the events whose times are not in their windows, each in
+/// ascending order.
 ///
 /// Refusals in order: 11 with the least event of the instance that has no time; 10.
 pub fn violations(
@@ -205,7 +205,7 @@ pub fn violations(
     list_violations(alloc, instance, timetable).map_err(|_| Refusal::Memory)
 }
 
-/// The sum of weight times slack over all activities, met or not. It is never refused memory.
+/// The sum of weight times slack over all activities, met or not. Nothing is allocated.
 ///
 /// Refusal: 11 with the least event of the instance that has no time.
 pub fn cost(instance: &Instance, timetable: &Timetable) -> Result<u64, Refusal>

@@ -19,7 +19,7 @@ pub struct Assessment {
     pub cost: u64,
 }
 
-/// Puts what an activity answers after what those before it do.
+/// Appends the tension of an activity, and its violation if it is not met, and adds its cost.
 fn add_activity(
     assessment: &mut Assessment,
     activity: &Activity,
@@ -48,7 +48,7 @@ fn add_activity(
     Ok(())
 }
 
-/// Puts what all activities answer after an assessment that has nothing yet.
+/// Does so for all activities. The assessment is empty.
 fn add_activities(
     assessment: &mut Assessment,
     instance: &Instance,
@@ -82,8 +82,8 @@ fn assess_timed(
     Ok(assessment)
 }
 
-/// Tensions, violations and cost at once: the times of each activity's ends are looked up once, and its
-/// slack is found once, for the three.
+/// Tensions, violations and cost at once. The times of an activity's ends are looked up once for
+/// all three, and its slack is computed once.
 ///
 /// Refusals in order: 11 with the least event of the instance that has no time; 10.
 pub fn assess(

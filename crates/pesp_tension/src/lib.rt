@@ -1,4 +1,4 @@
-//! Timetables, and what they make of an instance: tensions, violations and cost.
+//! Timetables, with their tensions, violations and cost in an instance.
 #![tactic(auto)]
 
 mod agreement;

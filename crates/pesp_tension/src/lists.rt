@@ -1,4 +1,4 @@
-//! The lists that answers give.
+//! The lists that calls return.
 
 use pesp_base::{ActivityId, EventId};
 

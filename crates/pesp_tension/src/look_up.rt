@@ -5,7 +5,7 @@ ghost use Rattle.pesp_tension.specs.Places.{AreRising, IsAt, IsGap};
 
 use pesp_base::EventId;
 
-/// Where an event stands, if it is as far after the first one as its number says.
+/// The place of an event, if it is as far from the first one as the difference of their numbers.
 fn place_by_number(times: &[(u32, u16)], event: EventId) -> Option<usize>
     ensures { IfSome result (IsAt times.now event) }
 {
@@ -19,7 +19,7 @@ fn place_by_number(times: &[(u32, u16)], event: EventId) -> Option<usize>
     }
 }
 
-/// Whether an event is above all that have a time.
+/// Whether an event is above all that have times.
 fn is_above_all(times: &[(u32, u16)], event: EventId) -> bool
     requires { AreRising times.now }
     ensures { IsTrue result ↔ IsGap times.now event (length times.now) }
@@ -30,10 +30,10 @@ fn is_above_all(times: &[(u32, u16)], event: EventId) -> bool
     }
 }
 
-/// Where an event stands, or would stand.
+/// The place of an event, or the place where it belongs.
 ///
-/// Numbers mostly have no gaps, and times mostly come by rising events: the place that the number says is looked at first,
-/// then the end, and then the others.
+/// Numbers mostly have no gaps, and times mostly come by rising events. So the place by number is
+/// tried first, then the end, and then a binary search.
 pub(crate) fn place(times: &[(u32, u16)], event: EventId) -> Result<usize, usize>
     requires { AreRising times.now }
     ensures found { IfOk result (IsAt times.now event) }

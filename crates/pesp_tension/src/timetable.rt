@@ -13,12 +13,13 @@ use pesp_base::{EventId, Period, Refusal, max_events};
 use std::alloc::Global;
 use std::marker::Model;
 
-/// Times of events, each below the period; an event need not have one.
+/// Times of events, each below the period. An event need not have one.
 #[derive(Drop)]
 pub struct Timetable {
-    // Each time is below it.
+    // Greater than each time.
     period: Period,
-    // The number and the time of each event that has one, by rising numbers.
+    // The number and the time of each event that has one, by rising numbers. One sorted list
+    // replaced an ordered map: docs/HISTORY.md, "One list of times".
     times: Vec<(u32, u16)>,
 }
 
@@ -73,10 +74,10 @@ impl Timetable {
         }
     }
 
-    /// Gives the event a time, also in place of another one.
+    /// Sets the time of an event, and replaces any earlier one.
     ///
-    /// Refusals in order: 4 where the time is not below the period; 7 where the event has no time
-    /// and as many others have one as may; 10. An event that has a time is never refused memory.
+    /// Refusals in order: 4 if the time is not below the period; 7 if the event has no time and the
+    /// greatest number of others have one; 10. An event that has a time is never refused memory.
     pub fn set(&mut self, event: EventId, time: u16) -> Result<(), Refusal>
         ensures ok { OnOk result (set_time self.old event time ≡ Ok self.new) }
         ensures refused { IfErr result (IsSetRefusal self.old event time) }
@@ -95,7 +96,7 @@ impl Timetable {
         }
     }
 
-    /// Where the event stands, or would stand.
+    /// The place of the event, or the place where it belongs.
     fn place_to_set(&self, event: EventId) -> Result<usize, usize>
         ensures known { is_ok result ≡ is_some (time_of self.now event) }
         ensures found { IfOk result (IsAt self.now.entries event) }
@@ -104,7 +105,7 @@ impl Timetable {
         place(&self.times, event)
     }
 
-    /// Gives an event that stands at the place another time.
+    /// Replaces the time of the event at the place.
     fn replace(&mut self, place: usize, event: EventId, time: u16)
         requires below { time < self.old.period }
         requires at { IsAt self.old.entries event place }
@@ -113,7 +114,7 @@ impl Timetable {
         self.times[place] = (event.get(), time);
     }
 
-    /// Gives an event that would stand at the place a time.
+    /// Inserts a time at the place where its event belongs.
     fn insert(&mut self, place: usize, event: EventId, time: u16) -> Result<(), Refusal>
         requires below { time < self.old.period }
         requires gap { IsGap self.old.entries event place }
@@ -128,7 +129,7 @@ impl Timetable {
         }
     }
 
-    /// Takes the event's time away, and says whether there was one.
+    /// Removes the event's time, and returns whether there was one.
     pub fn clear(&mut self, event: EventId) -> bool
         ensures had { result ≡ is_some (time_of self.old event) }
         ensures without { self.new ≡ without_time self.old event }

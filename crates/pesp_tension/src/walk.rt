@@ -13,10 +13,10 @@ pub struct EventTime {
     pub time: u16,
 }
 
-/// The events of a timetable that are left, in ascending order, each with its time.
+/// The remaining events of a timetable, in ascending order, each with its time.
 #[derive(Drop)]
 pub struct Walk<'a> {
-    // Those that are left, by rising numbers.
+    // The remaining entries, by rising numbers.
     pub(crate) entries: slice::Iter<'a, (u32, u16)>,
 }
 

@@ -1,4 +1,4 @@
-//! What tests of searches ask of a keeper, step by step.
+//! The steps that tests of searches take on a keeper.
 
 use crate::asserts::{hold, same};
 use crate::changes::Change;
@@ -10,36 +10,38 @@ use pesp_search::{Answer, Known, Tried};
 use pesp_tension::Timetable;
 use std::process::Abort;
 
-/// The time of each event.
+/// The event and the time of each.
 pub(crate) type Times<'a> = &'a [(u32, u16)];
 
-/// What a test asks of a keeper.
+/// A step that a test takes on a keeper.
 #[derive(Clone, Copy)]
 pub(crate) enum Step<'a> {
     /// The edit is accepted.
     Edit(Change),
-    /// The optimum, and the optimum again with its own cost as the bound.
+    /// The optimum has this cost and these times, also with its own cost as the bound.
     Best(u64, Times<'a>),
-    /// Nothing meets everything, with so many nodes where it is said.
+    /// No timetable meets everything. The search has this number of nodes, if one is given.
     Infeasible(Option<u64>),
-    /// A search that may visit so many nodes, and how it goes.
+    /// A search within this number of nodes has this outcome.
     Within(u64, Outcome<'a>),
-    /// What is known after so many nodes: the cost of the best, if any, the lower bound, and whether it stopped.
+    /// Within this number of nodes these are known: the cost of the best timetable, if any, the
+    /// lower bound, and whether the search stopped.
     Known(u64, Option<u64>, u64, bool),
-    /// The same after two searches of so many nodes, the second one from where the first one stopped.
+    /// The same after two searches within this number of nodes each, where the second one resumes
+    /// the first.
     KnownAfter(u64, Option<u64>, u64, bool),
 }
 
-/// How a search within a limit goes.
+/// The outcome of a search within a limit.
 #[derive(Clone, Copy)]
 pub(crate) enum Outcome<'a> {
     /// It ends with the optimum.
     Done(u64, Times<'a>),
-    /// It finds this, whether it ends there or stops.
+    /// It finds this timetable, and ends or stops.
     Found(u64, Times<'a>),
-    /// It tells that nothing meets everything.
+    /// It proves that no timetable meets everything.
     Infeasible,
-    /// It stops with nothing.
+    /// It stops without a timetable.
     Stopped,
 }
 
@@ -195,7 +197,7 @@ fn try_steps_by<K: Keeper>(
     take_all(rt, &mut kept, steps);
 }
 
-/// Takes the steps one after another on a keeper of either kind of what the edits make.
+/// Takes the steps in order, on a keeper of either kind of the instance that the edits make.
 pub(crate) fn try_steps(
     rt: &(impl Abort + AllocGlobal),
     period: u16,

@@ -1,14 +1,14 @@
-//! Assertions in small functions: where a message is written out, its text is proved once more.
+//! Assertions in small functions: a message that is written out is proved each time.
 
 use std::fmt::Debug;
 use std::process::Abort;
 
-/// What the message says holds.
+/// The condition of the message holds.
 pub(crate) fn hold(rt: &impl Abort, holds: bool, message: &str) {
     assert!(rt; holds, "{message}");
 }
 
-/// What was found is what is wanted.
+/// The value found is the expected one.
 pub(crate) fn same<T: Copy + PartialEq + Debug>(
     rt: &impl Abort,
     found: T,
@@ -18,7 +18,7 @@ pub(crate) fn same<T: Copy + PartialEq + Debug>(
     assert_eq!(rt; found, wanted, "{message}");
 }
 
-/// What was found is what is wanted, and the message is words and a number.
+/// The value found is the expected one. The message is words and a number.
 pub(crate) fn same_at<T: Copy + PartialEq + Debug>(
     rt: &impl Abort,
     found: T,

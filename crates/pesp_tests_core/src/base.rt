@@ -38,7 +38,7 @@ fn limits_of_periods_and_spans(rt: HostRuntime) {
     assert_no_span(&rt, GREATEST_BOUND + 1, 0, SpanFault::OutOfRange);
 }
 
-/// Bounds of a span, a residue, what is listed, and a message.
+/// Bounds of a span, a residue, the listed residues, and a message.
 type Listed<'a> = ((i32, i32), u16, &'a [u16], &'a str);
 
 /// The partners at period 10.

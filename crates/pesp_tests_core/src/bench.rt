@@ -1,4 +1,4 @@
-//! The optimum of a workbench: found, known, forgotten, and looked for within limits.
+//! The optimum of a workbench: found, known, forgotten, and searched for within limits.
 
 use crate::asserts::{hold, same};
 use crate::changes::Change;
@@ -27,7 +27,7 @@ fn optimum_is_found_and_kept(rt: HostRuntime) {
     try_steps(&rt, OPTIMUM_IS_FOUND_AND_KEPT);
 }
 
-/// The optimum is known, and the time and the instance are as they were.
+/// The optimum is known, and the time and the instance are unchanged.
 fn assert_optimum_beside_seven<K: Keeper>(rt: &impl Abort, bench: &Bench<K>, message: &str) {
     assert_known(rt, bench, 4, &[(1, 0), (2, 4)], message);
     assert_times(rt, bench.timetable(), &[(1, 7)], message);
@@ -35,7 +35,7 @@ fn assert_optimum_beside_seven<K: Keeper>(rt: &impl Abort, bench: &Bench<K>, mes
     same(rt, bench.instance().activity_count(), 2, message);
 }
 
-/// The optimum is answered, found or known before, and leaves all but what is known of it.
+/// The optimum is returned, found now or known before. Nothing changes but what is known of it.
 fn assert_answered<K: Keeper>(
     rt: &(impl Abort + AllocGlobal),
     bench: &mut Bench<K>,

@@ -1,4 +1,5 @@
-//! The timetable of a forgotten optimum, or of a search that stopped, which a later search that stops may hand out.
+//! The timetable of a forgotten optimum, or of a stopped search, which a later search may return if
+//! it stops.
 
 use crate::asserts::{hold, same};
 use crate::changes::Change;
@@ -10,7 +11,7 @@ use pesp_domains::{Keeper, PlainKeeper};
 use pesp_search::Best;
 use std::process::Abort;
 
-/// Three events, of which the tree has a timetable sooner than it knows that none costs less.
+/// Three events. The tree finds a timetable of them before it proves that none costs less.
 const THREE_EVENTS: &[Change] = &[
     Change::AddEvent(1),
     Change::AddEvent(2),
@@ -20,16 +21,17 @@ const THREE_EVENTS: &[Change] = &[
     Change::AddActivity(3, (1, 2), (1, 7), 1),
 ];
 
-/// Activities like the first one that cost nothing, and make so many cycles that the tree alone is searched.
+/// More activities like the first one, without cost. They make too many cycles, so only the tree is
+/// searched.
 const COPIES: std::ops::Range<u32> = 4..406;
 
 /// The old optimum of the two activities.
 const OLD: &[(u32, u16)] = &[(1, 0), (2, 4)];
 
-/// What is found of the three events.
+/// The timetable that is found of the three events.
 const FOUND: &[(u32, u16)] = &[(1, 0), (2, 1), (3, 9)];
 
-/// What a search stops with that may visit so many nodes; none also where it ends.
+/// The timetable with which a search within this number of nodes stops. None also if it ends.
 fn stopped_with<K: Keeper>(
     rt: &(impl Abort + AllocGlobal),
     bench: &mut Bench<K>,
@@ -41,7 +43,7 @@ fn stopped_with<K: Keeper>(
     }
 }
 
-/// A search that may visit so many nodes stops with this timetable, at this cost.
+/// A search within this number of nodes stops with this timetable, at this cost.
 fn assert_stopped_with<K: Keeper>(
     rt: &(impl Abort + AllocGlobal),
     bench: &mut Bench<K>,
@@ -63,7 +65,7 @@ fn assert_no_candidate<K: Keeper>(
     assert_unknown(rt, bench, message);
 }
 
-/// The optimum is found before this edit.
+/// Finds the optimum, and then makes the edit.
 fn find_before<K: Keeper>(rt: &(impl Abort + AllocGlobal), bench: &mut Bench<K>, edit: Change) {
     same(rt, find(rt, bench), Ok(()), "found before");
     change(rt, bench, edit);

@@ -1,4 +1,4 @@
-//! Edits as plain values, so that tables can have them, and those that make the worked examples.
+//! Edits as plain values for tables, and those of the worked examples.
 
 use crate::made::{activity, event, id, span, weight};
 use pesp_instance::Edit;

@@ -1,4 +1,5 @@
-//! What the working timetable costs after each kind of change, with a loop and activities side by side.
+//! The cost of the working timetable after each kind of change, with a loop and parallel
+//! activities.
 
 use crate::asserts::same;
 use crate::changes::Change;
@@ -18,7 +19,7 @@ enum Move {
     Edit(Change),
 }
 
-/// What is told of the cost.
+/// What the workbench returns for the cost.
 #[derive(Clone, Copy)]
 enum Told {
     Cost(u64),

@@ -1,4 +1,4 @@
-//! What the keeper by counts answers besides, and that it agrees with the plain one.
+//! What the keeper by counts returns in addition, and that it agrees with the plain one.
 
 ghost use Rattle.std.specs.Prelude.{◌≡◌, []};
 
@@ -11,7 +11,7 @@ use pesp_counts::CountKeeper;
 use pesp_domains::{Keeper, PlainKeeper, Side};
 use std::process::Abort;
 
-/// A count of the first activity at an end and a residue.
+/// An end and a residue of the first activity, and the count there.
 type Count = (Side, u16, Option<u16>);
 
 fn assert_supports(rt: &impl Abort, keeper: &CountKeeper, counts: &[Count], message: &str) {
@@ -21,7 +21,7 @@ fn assert_supports(rt: &impl Abort, keeper: &CountKeeper, counts: &[Count], mess
     }
 }
 
-/// The counts while the first event is pushed to 0, and after that.
+/// The counts while the first event is pushed to 0, and after the pop.
 fn assert_pushed(rt: &impl Abort, kept: &mut Counted, pushed: &[Count], popped: &[Count]) {
     push(rt, &mut kept.keeper, event(rt, 1), 0);
     assert_supports(rt, &kept.keeper, pushed, "event 1 at 0");
@@ -44,7 +44,7 @@ fn counts_are_read_by_support(rt: HostRuntime) {
     drop(kept);
 }
 
-/// The rows of the four events, which are the same by either keeper.
+/// The rows of the four events are the same by either keeper.
 fn assert_same<P: Keeper, C: Keeper>(rt: &impl Abort, plain: &P, counted: &C, message: &str) {
     for number in 1..5 {
         let event = event(rt, number);
@@ -65,7 +65,8 @@ fn assert_same<P: Keeper, C: Keeper>(rt: &impl Abort, plain: &P, counted: &C, me
     }
 }
 
-/// Pushes two pairs and pops them again. Both keepers have the same rows after each push and each pop.
+/// Pushes two pairs and pops them again. Both keepers have the same rows after each push and each
+/// pop.
 fn try_order<P: Keeper, C: Keeper>(
     rt: &impl Abort,
     plain: &mut P,

@@ -60,13 +60,14 @@ fn edited_by<K: Keeper>(
     kept
 }
 
-/// A keeper of either kind of what the first edits make at period 10 has the first rows, and after each of the others these.
+/// A keeper of either kind, of the instance that the edits make at period 10, has the first rows,
+/// and after each further edit the rows beside it.
 fn try_edits(rt: &(impl Abort + AllocGlobal), made: &[Change], first: Rows<'_>, edits: Edits<'_>) {
     drop(edited_by::<PlainKeeper>(rt, 10, made, first, edits));
     drop(edited_by::<CountKeeper>(rt, 10, made, first, edits));
 }
 
-/// Two events at a period of a day, of which the second is a day less a minute after the first.
+/// Two events at a period of a day. The second is a day less a minute after the first.
 const A_DAY_APART: &[Change] = &[
     Change::AddEvent(1),
     Change::AddEvent(2),
@@ -222,7 +223,7 @@ fn loops_and_spans(rt: HostRuntime) {
     try_edits(&rt, ONE_EVENT, ONE_ROW, LOOPS_AND_SPANS);
 }
 
-/// Pushes a pair, and after it a second one where there is one; pops leave the rows that were there before.
+/// Pushes a pair, and then a second one if there is one. Pops restore the rows from before.
 fn assert_pushed<K: Keeper>(
     rt: &impl Abort,
     kept: &mut Unpushed<K>,

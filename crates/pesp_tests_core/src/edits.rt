@@ -23,11 +23,11 @@ fn refused(rt: &impl Abort, instance: &mut Instance, edit: Edit, refusal: Refusa
     same(rt, instance.apply(&edit), Err(refusal), message);
 }
 
-/// What an edit is answered, by the numbers of events and activities.
+/// The result of an edit, by the numbers of events and activities.
 #[derive(Clone, Copy)]
 enum Answer {
     Accepted,
-    /// The event is used by the activity.
+    /// The event is an end of the activity.
     EventInUse(u32, u32),
     EventExists(u32),
     NotFixed(u32),
@@ -42,7 +42,7 @@ fn answer_of(rt: &impl Abort, answer: Answer) -> Result<(), Refusal> {
     }
 }
 
-/// Edits, what each is answered, and a message.
+/// Edits, the result of each, and a message.
 type Edits<'a> = &'a [(Change, Answer, &'a str)];
 
 fn assert_answer(
@@ -104,7 +104,8 @@ const REFUSALS: Edits<'_> = &[
     ),
 ];
 
-/// Each edit of the two activities. The instance is let go by a call: where it goes at the end, the proof takes longer.
+/// Tries each edit of the two activities. A call drops the instance: a drop at the end makes the
+/// proof slower.
 fn try_edited(rt: &(impl Abort + AllocGlobal), edits: Edits<'_>) {
     drop(edited(rt, edits));
 }
@@ -147,7 +148,7 @@ fn assert_activity(rt: &impl Abort, instance: &Instance, activity: Activity) {
 
 const SECOND_FIXED: Edits<'_> = &[(Change::Fix(2, 7), Answer::Accepted, "event 2 is fixed")];
 
-/// Event 1 is there, and event 2 is fixed at 7.
+/// Event 1 exists, and event 2 is fixed at 7.
 fn assert_second_fixed(rt: &impl Abort, instance: &Instance) {
     hold(rt, instance.has_event(event(rt, 1)), "event 1");
     same(rt, instance.fixed(event(rt, 2)), Some(7), "event 2");
@@ -220,7 +221,7 @@ fn walks(rt: HostRuntime) {
     drop(instance);
 }
 
-/// As many events as there may be, and one more, which is refused.
+/// Adds the greatest number of events. One more is refused.
 fn fill_events(rt: &impl Abort, instance: &mut Instance) {
     let most = max_events(instance.period()) as u32;
     for number in 0..most {
@@ -231,7 +232,7 @@ fn fill_events(rt: &impl Abort, instance: &mut Instance) {
     refused(rt, instance, one_more, full, "one event too many");
 }
 
-/// As many activities among the events as there may be, and one more, which is refused.
+/// Adds the greatest number of activities between the events. One more is refused.
 fn fill_activities(rt: &impl Abort, instance: &mut Instance) {
     let events = max_events(instance.period()) as u32;
     let most = max_activities(instance.period()) as u32;
@@ -244,7 +245,7 @@ fn fill_activities(rt: &impl Abort, instance: &mut Instance) {
     refused(rt, instance, one_more, full, "one activity too many");
 }
 
-/// Fills an instance of so many events and activities, which are all that it may have.
+/// Fills an instance with this number of events and activities, which are the greatest.
 fn fill(rt: &impl Abort, instance: &mut Instance, events: usize, activities: usize) {
     fill_events(rt, instance);
     fill_activities(rt, instance);
@@ -300,7 +301,7 @@ fn activities_of(rt: &(impl Abort + AllocGlobal), given: Given<'_>) -> Vec<Activ
     activities
 }
 
-/// The instance of events 1 and 2 with these activities, where they can be stored at once.
+/// The instance of events 1 and 2 with these activities, if they can be stored at once.
 fn stored(rt: &(impl Abort + AllocGlobal), given: Given<'_>) -> Option<Instance> {
     let mut instance = empty(rt, 10);
     accepted(rt, &mut instance, Edit::AddEvent(event(rt, 2)), "event 2");

@@ -1,7 +1,7 @@
 //! The worked examples of edits, timetables, domains, searches and workbenches.
 //!
-//! They stand above the crates whose calls they try, so that none of these is proved a second time
-//! with tests in it. Their tables are constants, since a table that a test writes out is proved with it.
+//! They are in a crate above those that they call, so that none of these is proved again with tests
+//! in it. Their tables are constants, because a table inside a test is proved with it.
 #![tactic(auto)]
 
 #[cfg(test)]

@@ -25,7 +25,7 @@ pub(crate) fn weight(rt: &impl Abort, weight: u32) -> Weight {
     Weight::new(weight).expect(rt, "a weight")
 }
 
-/// An activity of this number, from the first of these events to the second.
+/// An activity with this number, from the first of these events to the second.
 pub(crate) fn activity(
     rt: &impl Abort,
     number: u32,

@@ -1,4 +1,4 @@
-//! Timetables that meet everything or not.
+//! Timetables that meet everything, and others.
 
 use crate::asserts::same;
 use crate::changes::Change;
@@ -28,7 +28,7 @@ fn timetable(
     timetable
 }
 
-/// Times, and what they cost where they are of a timetable that meets everything.
+/// Times, and their cost if they are a timetable that meets everything.
 type Costs<'a> = &'a [(&'a [(u32, u16)], Option<u64>, &'a str)];
 
 fn assert_member_cost(
@@ -78,7 +78,7 @@ const COST_OF_A_MEMBER_WITH_A_WINDOW: Costs<'_> = &[
 
 const COST_OF_NO_MEMBER: Costs<'_> = &[(&[(1, 0), (2, 4)], None, "infeasible")];
 
-/// What these times cost after an edit.
+/// The cost of these times after an edit.
 fn assert_costs_after<K: Keeper>(
     rt: &(impl Abort + AllocGlobal),
     kept: &mut Unpushed<K>,

@@ -1,4 +1,4 @@
-//! Parts of an instance without a window, at whose first event residue 0 alone is tried.
+//! Parts of an instance without a window. At the first event of each, residue 0 alone is tried.
 
 use crate::asked::{Step, Steps, Times, try_steps};
 use crate::changes::{Change, TWO_ACTIVITIES};

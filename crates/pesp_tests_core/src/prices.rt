@@ -1,4 +1,4 @@
-//! What the best timetable costs under a restriction that is not made.
+//! The cost of the best timetable under a restriction that is not made.
 
 use crate::asserts::{hold, same};
 use crate::changes::Change;
@@ -10,7 +10,7 @@ use pesp_counts::CountKeeper;
 use pesp_domains::{Keeper, PlainKeeper};
 use std::process::Abort;
 
-/// The least cost, or none where no timetable meets everything.
+/// The least cost, or none if no timetable meets everything.
 fn price_of<K: Keeper>(
     rt: &(impl Abort + AllocGlobal),
     bench: &mut Bench<K>,
@@ -55,7 +55,7 @@ fn assert_prices_of_spans<K: Keeper>(rt: &(impl Abort + AllocGlobal), bench: &mu
     assert_price(rt, bench, missing, refused, "no such activity");
 }
 
-/// Prices are those of the instance, which stays as it was.
+/// Prices are those of the instance, which does not change.
 fn prices_by<K: Keeper>(rt: &(impl Abort + AllocGlobal)) {
     let mut bench: Bench<K> = bench(rt);
     change(rt, &mut bench, Change::Fix(1, 0));

@@ -1,4 +1,4 @@
-//! What an edit puts back, as the keeper by counts tells it.
+//! The pairs that an edit restores, as the keeper by counts reports them.
 
 use crate::asserts::{same, same_at};
 use crate::changes::Change;
@@ -8,7 +8,7 @@ use pesp_counts::CountKeeper;
 use pesp_domains::{Keeper, Pair};
 use std::process::Abort;
 
-/// These residues of an event are among the pairs that were put back.
+/// These residues of an event are among the restored pairs.
 fn assert_among(rt: &impl Abort, restored: &[Pair], number: u32, residues: &[u16], message: &str) {
     let event = event(rt, number);
     for residue in residues {
@@ -19,7 +19,7 @@ fn assert_among(rt: &impl Abort, restored: &[Pair], number: u32, residues: &[u16
     }
 }
 
-/// The residues of both events were put back, in whatever order, and no others.
+/// These residues of both events are restored, in any order, and no others.
 fn assert_restored(
     rt: &impl Abort,
     keeper: &CountKeeper,
@@ -34,7 +34,7 @@ fn assert_restored(
     assert_among(rt, restored, 2, second, message);
 }
 
-/// Edits, and the residues of both events that each puts back.
+/// Edits, and the residues of both events that each restores.
 type Edits<'a> = &'a [(Change, &'a [u16], &'a [u16], &'a str)];
 
 fn take(rt: &impl Abort, kept: &mut Counted, edits: Edits<'_>) {
@@ -51,7 +51,8 @@ fn edited(rt: &(impl Abort + AllocGlobal), edits: Edits<'_>) -> Counted {
     kept
 }
 
-/// Each edit of the two activities. The keeper is let go by a call: where it goes at the end, the proof takes longer.
+/// Tries each edit of the two activities. A call drops the keeper: a drop at the end makes the
+/// proof slower.
 fn try_edits(rt: &(impl Abort + AllocGlobal), edits: Edits<'_>) {
     drop(edited(rt, edits));
 }
@@ -103,7 +104,7 @@ fn a_window_is_moved(rt: HostRuntime) {
     try_edits(&rt, A_WINDOW_IS_MOVED);
 }
 
-/// The residues of the second event that come back where the second activity joins nothing.
+/// The residues of the second event that return where the second activity has no partners.
 const SECOND: &[u16] = &[0, 1, 2, 3, 6, 7, 8, 9];
 
 const AN_ACTIVITY_IS_DROPPED: Edits<'_> = &[
@@ -143,7 +144,7 @@ fn no_edit_puts_nothing_back(rt: HostRuntime) {
     drop(kept);
 }
 
-/// A push and a pop leave the list as it was.
+/// A push and a pop do not change the list.
 fn assert_pushed(rt: &impl Abort, kept: &mut Counted, first: &[u16], second: &[u16]) {
     push(rt, &mut kept.keeper, event(rt, 2), 5);
     assert_restored(rt, &kept.keeper, first, second, "a push");
@@ -151,7 +152,7 @@ fn assert_pushed(rt: &impl Abort, kept: &mut Counted, first: &[u16], second: &[u
     assert_restored(rt, &kept.keeper, first, second, "a pop");
 }
 
-/// A refused edit, a push and a pop leave the list as it was.
+/// A refused edit, a push and a pop do not change the list.
 fn assert_kept(rt: &impl Abort, kept: &mut Counted, first: &[u16], second: &[u16]) {
     kept.refuse_a_time(rt);
     assert_restored(rt, &kept.keeper, first, second, "a refused edit");

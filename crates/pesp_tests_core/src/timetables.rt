@@ -1,4 +1,4 @@
-//! Timetables, and how many times one may have.
+//! Timetables, and the greatest number of their times.
 
 use crate::asserts::{hold, same, same_at};
 use crate::made::event;

@@ -1,4 +1,4 @@
-//! Keepers on which nothing is pushed, to try tables of edits on.
+//! Keepers with nothing pushed, for tables of edits.
 
 use crate::asserts::{hold, same};
 use crate::changes::{Change, TWO_ACTIVITIES, edit_of};
@@ -11,10 +11,10 @@ use pesp_search::{Answer, Known, Searches, Tried, best, best_within, known_after
 use std::marker::Model;
 use std::process::Abort;
 
-/// A keeper on which nothing is pushed.
+/// A keeper with nothing pushed.
 ///
-/// Its functions have no contracts, so that what an edit makes of the keeper is not worked out again
-/// after each one while the tests are proved.
+/// Its functions have no contracts, so that proofs of the tests do not compute the keeper after
+/// each edit.
 #[derive(Drop)]
 pub(crate) struct Unpushed<K: Keeper> {
     // Nothing is pushed on it.
@@ -42,7 +42,7 @@ impl<K: Keeper> Unpushed<K> {
         Unpushed { keeper }
     }
 
-    /// A keeper of what these edits make of the empty instance.
+    /// A keeper of the instance that these edits make of the empty one.
     pub(crate) fn made(
         rt: &(impl Abort + AllocGlobal),
         period: u16,
@@ -77,13 +77,13 @@ impl<K: Keeper> Unpushed<K> {
         hold(rt, refused.is_err(), "a time beyond the period");
     }
 
-    /// The optimum, and the nodes of the search.
+    /// The optimum, and the number of nodes of the search.
     pub(crate) fn best(&mut self, rt: &(impl Abort + AllocGlobal)) -> (Answer, u64) {
         let found = best(rt.alloc(), &mut self.keeper, None);
         found.ok().expect(rt, "memory")
     }
 
-    /// The optimum, found with its own cost as the bound.
+    /// The optimum, with its own cost as the bound.
     pub(crate) fn best_at_its_cost(&mut self, rt: &(impl Abort + AllocGlobal)) -> Answer {
         let found = best(rt.alloc(), &mut self.keeper, None);
         let (answer, _) = found.ok().expect(rt, "memory");
@@ -95,13 +95,13 @@ impl<K: Keeper> Unpushed<K> {
         answer
     }
 
-    /// What a search within a limit answers, and its nodes.
+    /// The result of a search within a limit, and its number of nodes.
     pub(crate) fn tried(&mut self, rt: &(impl Abort + AllocGlobal), limit: u64) -> (Tried, u64) {
         let tried = best_within(rt.alloc(), &mut self.keeper, None, limit);
         tried.ok().expect(rt, "memory")
     }
 
-    /// What is known after a search within a limit.
+    /// What a search within a limit makes known.
     pub(crate) fn known(&mut self, rt: &(impl Abort + AllocGlobal), limit: u64) -> Known {
         let known = known_within(rt.alloc(), &mut self.keeper, None, limit);
         let (known, nodes) = known.ok().expect(rt, "memory");
@@ -109,7 +109,7 @@ impl<K: Keeper> Unpushed<K> {
         known
     }
 
-    /// What is known after two searches within a limit, the second one from where the first one stopped.
+    /// What two searches within a limit make known, where the second one resumes the first.
     pub(crate) fn known_after(&mut self, rt: &(impl Abort + AllocGlobal), limit: u64) -> Known {
         let mut before = Searches::new(rt.alloc());
         let limit = Some(limit);

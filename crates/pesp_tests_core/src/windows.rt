@@ -28,7 +28,8 @@ fn limits_of_windows(rt: HostRuntime) {
     }
 }
 
-/// First residues and lengths, the residues up to 11 that are in the window at period 10, and the time of one of a single residue.
+/// First residues and lengths, the residues up to 11 that are in the window at period 10, and the
+/// time of a window of one residue.
 const RESIDUES: &[(u16, u16, &[u16], Option<u16>)] = &[
     (9, 3, &[0, 1, 9], None),
     (0, 2, &[0, 1], None),
@@ -55,7 +56,7 @@ fn residues_of_windows(rt: HostRuntime) {
     }
 }
 
-/// An event's window after an edit, as its first residue and its length.
+/// An event's window, as its first residue and its length.
 type Seen = Option<(u16, u16)>;
 
 fn seen(rt: &impl Abort, instance: &Instance, number: u32) -> Seen {
@@ -104,9 +105,9 @@ fn windows_come_and_go(rt: HostRuntime) {
 /// Why a window is refused.
 #[derive(Clone, Copy)]
 enum Why {
-    /// There is no event of this number.
+    /// No event has this number.
     NoEvent(u32),
-    /// The first residue is too late.
+    /// The first residue is not below the period.
     First(u16),
     Length(u16),
 }
@@ -119,7 +120,7 @@ fn refusal_of(rt: &impl Abort, why: Why) -> Refusal {
     }
 }
 
-/// Windows that are refused, each for the first of its reasons.
+/// Refused windows, each for the first of its reasons.
 const REFUSALS: &[(Change, Why, &str)] = &[
     (Change::SetWindow(9, 0, 1), Why::NoEvent(9), "no event"),
     (Change::SetWindow(9, 10, 0), Why::NoEvent(9), "all three"),
@@ -129,7 +130,7 @@ const REFUSALS: &[(Change, Why, &str)] = &[
     (Change::SetWindow(1, 0, 11), Why::Length(11), "too long"),
 ];
 
-/// The window of event 1 is as it was after each refusal.
+/// A refusal does not change the window of event 1.
 fn assert_refusals(rt: &impl Abort, instance: &mut Instance, window: Seen) {
     for (change, why, message) in REFUSALS {
         let refused = instance.apply(&edit_of(rt, *change));

@@ -59,10 +59,10 @@ pub(crate) fn assert_known<K: Keeper>(
     }
 }
 
-/// Whether the optimum is answered, found or known before.
+/// Whether the optimum is returned, found now or known before.
 ///
-/// Like the functions that call others of a workbench it has no contract, so that what a call makes of the
-/// workbench is not worked out again after it while the tests are proved.
+/// Like the functions that call others of a workbench it has no contract, so that proofs of the
+/// tests do not compute the workbench after each call.
 pub(crate) fn is_answered<K: Keeper>(
     rt: &(impl Abort + AllocGlobal),
     bench: &mut Bench<K>,
@@ -91,16 +91,16 @@ pub(crate) fn assert_no_nodes<K: Keeper>(rt: &impl Abort, bench: &Bench<K>, mess
     same(rt, bench.last_nodes(), 0, message);
 }
 
-/// What a test asks of a workbench.
+/// A step that a test takes on a workbench.
 #[derive(Clone, Copy)]
 pub(crate) enum Step {
     /// The edit is accepted.
     Edit(Change),
-    /// The optimum is looked for.
+    /// The optimum is searched for.
     Find,
-    /// The optimum is looked for, where none is known.
+    /// The optimum is searched for, because none is known.
     Search,
-    /// The known optimum serves, without a node.
+    /// The known optimum is returned, without a node.
     FindAgain,
 }
 
@@ -152,7 +152,7 @@ fn take<K: Keeper>(
 /// Steps, what is known after each, and a message.
 pub(crate) type Steps<'a> = &'a [(Step, Known<'a>, &'a str)];
 
-/// Takes these steps one after another. After each, this is known.
+/// Takes these steps in order. After each, this is known.
 pub(crate) fn take_steps<K: Keeper>(
     rt: &(impl Abort + AllocGlobal),
     bench: &mut Bench<K>,

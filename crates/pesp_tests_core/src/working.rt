@@ -84,7 +84,7 @@ fn assert_adopted<K: Keeper>(
     assert_cost(rt, bench, Ok(4));
 }
 
-/// The optimum is adopted, and stays where nothing meets everything.
+/// The optimum is adopted. It stays if no timetable meets everything.
 fn adopted_optimum_stays<K: Keeper>(rt: &(impl Abort + AllocGlobal), bench: &mut Bench<K>) {
     assert_adopted(rt, bench, Ok(()), "adopted");
     change(rt, bench, Change::SetSpan(1, 3, 3));
@@ -203,7 +203,7 @@ fn assert_domain<K: Keeper>(
     assert_row(rt, bench, number, wanted, message);
 }
 
-/// There is no event 3, and event 2 may stand at 4.
+/// There is no event 3, and event 2 may take place at 4.
 fn assert_looked_up<K: Keeper>(rt: &impl Abort, bench: &Bench<K>) {
     hold(rt, bench.domain(event(rt, 3)).is_err(), "no event");
     hold(rt, bench.keeper().holds(event(rt, 2), 4), "by the keeper");

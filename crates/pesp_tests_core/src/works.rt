@@ -1,4 +1,4 @@
-//! What an edit takes, as the keeper by counts tells it.
+//! The work of an edit, as the keeper by counts reports it.
 
 use crate::asserts::{hold, same};
 use crate::changes::Change;
@@ -10,7 +10,8 @@ use pesp_domains::Keeper;
 use pesp_instance::{Edit, Instance};
 use std::process::Abort;
 
-/// So many pairs that an edit put back and took out, and so many probes at most, where it is said.
+/// The numbers of pairs that an edit restored and removed, and the greatest number of probes, if
+/// one is given.
 type Taken = (u64, u64, Option<u64>);
 
 fn assert_taken(rt: &impl Abort, keeper: &CountKeeper, taken: Taken, message: &str) {
@@ -22,7 +23,7 @@ fn assert_taken(rt: &impl Abort, keeper: &CountKeeper, taken: Taken, message: &s
     hold(rt, probes <= most.unwrap_or(probes), message);
 }
 
-/// Edits, and what each takes.
+/// Edits, and the work of each.
 type Edits<'a> = &'a [(Change, Taken, &'a str)];
 
 fn take(rt: &impl Abort, kept: &mut Counted, edits: Edits<'_>) {
@@ -39,7 +40,8 @@ fn edited(rt: &(impl Abort + AllocGlobal), edits: Edits<'_>) -> Counted {
     kept
 }
 
-/// Each edit of the two activities. The keeper is let go by a call: where it goes at the end, the proof takes longer.
+/// Tries each edit of the two activities. A call drops the keeper: a drop at the end makes the
+/// proof slower.
 fn try_edits(rt: &(impl Abort + AllocGlobal), edits: Edits<'_>) {
     drop(edited(rt, edits));
 }
@@ -131,7 +133,8 @@ fn add_events(rt: &impl Abort, instance: &mut Instance) {
     }
 }
 
-/// Activities of the numbers 1 and 2 between events 1 and 2, and of 1001 to 2999 from each other event to the next.
+/// Activities 1 and 2 between events 1 and 2, and activities 1001 to 2999, each from one other
+/// event to the next.
 fn join_events(rt: &impl Abort, instance: &mut Instance) {
     join(rt, instance, activity(rt, 1, (1, 2), (3, 5), 2));
     join(rt, instance, activity(rt, 2, (2, 1), (4, 6), 1));
@@ -157,7 +160,7 @@ fn a_long_chain(rt: HostRuntime) {
     drop(kept);
 }
 
-/// The work of the last edit is this one.
+/// This is the work of the last edit.
 fn assert_work(rt: &impl Abort, keeper: &CountKeeper, work: Work, message: &str) {
     same(rt, keeper.last_work(), work, message);
 }
@@ -174,7 +177,7 @@ fn no_edit_takes_nothing(rt: HostRuntime) {
     drop(kept);
 }
 
-/// A push and a pop leave the work as it was.
+/// A push and a pop do not change the work.
 fn assert_pushed(rt: &impl Abort, kept: &mut Counted, work: Work) {
     push(rt, &mut kept.keeper, event(rt, 2), 5);
     assert_work(rt, &kept.keeper, work, "a push");
@@ -182,7 +185,7 @@ fn assert_pushed(rt: &impl Abort, kept: &mut Counted, work: Work) {
     assert_work(rt, &kept.keeper, work, "a pop");
 }
 
-/// A refused edit, a push and a pop leave the work as it was.
+/// A refused edit, a push and a pop do not change the work.
 fn assert_kept(rt: &impl Abort, kept: &mut Counted) {
     let work = kept.keeper.last_work();
     kept.refuse_a_time(rt);

@@ -1,4 +1,4 @@
-//! What a keeper tells that counts, as lines.
+//! The counts of the keeper by counts, as lines.
 
 use crate::rows::NUMBERS;
 use pesp_base::ActivityId;
@@ -27,7 +27,7 @@ fn tell_activity(rt: &impl Print, keeper: &CountKeeper, activity: ActivityId) {
     let _ = rt.println("");
 }
 
-/// The pairs that the last edit put back, and what it took.
+/// The pairs that the last edit restored, and its work.
 fn tell_work(rt: &impl Print, keeper: &CountKeeper) {
     let _ = rt.print("restored");
     for pair in keeper.restored() {

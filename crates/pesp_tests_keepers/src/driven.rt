@@ -1,4 +1,4 @@
-//! A keeper that is driven.
+//! A keeper driven by requests.
 
 ghost use Rattle.std.specs.Prelude.{◌≡◌, ℕ, false};
 ghost use Rattle.pesp_domains.specs.Domains.{In};
@@ -11,12 +11,12 @@ use pesp_instance::{Edit, Instance};
 use std::alloc::Global;
 use std::marker::Model;
 
-/// A keeper, with the pairs that it was pushed.
+/// A keeper, with the pairs that are pushed on it.
 #[derive(Drop)]
 pub(crate) struct Driven<K: Keeper> {
-    // Its pushes are those below.
+    // Its pushes are those of `pushed`.
     keeper: K,
-    // The last one at the end.
+    // The pairs in the order of their pushes.
     pushed: Vec<Pair>,
 }
 
@@ -31,7 +31,7 @@ impl<K: Keeper> Model for Driven<K> {
     ghost invariant = { λ d. K.pushes d.keeper ≡ d.pushed.items };
 }
 
-/// Whether a pair of the event is among them.
+/// Whether one of the pairs is of the event.
 fn has_event(pairs: &[Pair], event: EventId) -> bool
     ensures { result ≡ false → (r : ℕ) → In pairs.now event r → ⊥ }
 {
@@ -52,7 +52,7 @@ impl<K: Keeper> Driven<K> {
         &self.keeper
     }
 
-    /// Makes the edit, which is refused where something is pushed.
+    /// Makes the edit, which is refused while something is pushed.
     fn edit(&mut self, rt: &impl Print, edit: &Edit) {
         if !self.pushed.is_empty() {
             let _ = rt.println("not now");
@@ -68,7 +68,8 @@ impl<K: Keeper> Driven<K> {
         }
     }
 
-    /// Pushes the pair, where the instance has it, no other one of its event is pushed, and there is room to note it.
+    /// Pushes the pair if the instance has it, no other pair of its event is pushed, and there is
+    /// room to record it.
     fn push(&mut self, event: EventId, residue: u16) -> bool {
         let instance = self.keeper.instance();
         if !instance.has_event(event) || residue >= instance.period().get() {
@@ -81,7 +82,7 @@ impl<K: Keeper> Driven<K> {
         true
     }
 
-    /// Takes the pair away that was pushed last, if there is one.
+    /// Pops the last pair, if there is one.
     fn pop(&mut self) -> bool {
         let is_fine = self.pushed.pop().is_some();
         if is_fine {
@@ -90,7 +91,7 @@ impl<K: Keeper> Driven<K> {
         is_fine
     }
 
-    /// Does what is asked, and tells the answer and the rows.
+    /// Executes a request, and prints the result and the rows.
     pub(crate) fn follow(&mut self, rt: &impl Print, request: &Request) {
         match request {
             Request::Edit(edit) => self.edit(rt, edit),

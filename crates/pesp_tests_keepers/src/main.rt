@@ -1,4 +1,4 @@
-//! Drives both keepers by the lines of standard input, and tells what they keep after each line.
+//! Drives both keepers by the lines of standard input, and prints what they keep after each line.
 #![tactic(auto)]
 
 mod counts;
@@ -33,7 +33,7 @@ impl Both {
         Some(Both { plain, counted })
     }
 
-    /// Does what the line asks for, and tells what both keepers keep then.
+    /// Executes the line's request, and prints what both keepers keep then.
     fn follow(&mut self, rt: &impl Print, line: &[u8]) {
         let Some(request) = request_of(line) else {
             let _ = rt.println("no request");

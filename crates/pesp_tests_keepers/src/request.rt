@@ -1,10 +1,10 @@
-//! What a line asks for.
+//! The request of a line.
 
 use pesp_base::EventId;
 use pesp_instance::Edit;
 use pesp_shell_commands::{Command, parse};
 
-/// What is asked of both keepers.
+/// A request to both keepers.
 #[derive(Clone, Copy)]
 pub(crate) enum Request {
     Edit(Edit),
@@ -19,7 +19,8 @@ fn edit_of(line: &[u8]) -> Option<Edit> {
     }
 }
 
-/// An edit as the program takes it, `push` with the line that would fix the time, or `pop`.
+/// The request of a line: an edit as in the program, `push` with the rest of a line that fixes a
+/// time, or `pop`.
 pub(crate) fn request_of(line: &[u8]) -> Option<Request> {
     match line {
         b"pop" => Some(Request::Pop),

@@ -3,10 +3,11 @@
 use pesp_base::EventId;
 use pesp_domains::{Keeper, Row};
 
-/// The numbers of events and activities of which something is told are below this.
+/// Events and activities with numbers below this are printed. It bounds the output; no measurement
+/// chose it.
 pub(crate) const NUMBERS: u32 = 8;
 
-/// What a row and its keeper say of one residue; where they differ, a question mark.
+/// The mark of a residue by a row and its keeper: a question mark if they differ.
 fn mark(row: Option<&Row>, residue: u16, holds: bool) -> &'static str {
     match row {
         None if !holds => "-",
@@ -25,7 +26,8 @@ fn tell_row<K: Keeper>(rt: &impl Print, keeper: &K, event: EventId) {
     let _ = rt.println("");
 }
 
-/// A line for each number of an event: how many residues its row has, and a mark for each residue.
+/// A line for each number of an event: the number of residues in its row, and a mark for each
+/// residue.
 pub(crate) fn tell<K: Keeper>(rt: &impl Print, keeper: &K) {
     for number in 0..NUMBERS {
         if let Some(event) = EventId::new(number) {

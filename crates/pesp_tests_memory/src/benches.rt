@@ -1,4 +1,4 @@
-//! What a workbench is asked for.
+//! Calls of a workbench.
 
 use crate::call::{Call, is_asked, is_wanted, try_and_drop};
 use crate::{made, showing, telling, working};
@@ -29,7 +29,7 @@ enum Ask {
 
 #[derive(Drop)]
 struct Lent {
-    // What the call is asked of,
+    // The workbench that the call is made on,
     bench: Bench<CountKeeper>,
     // the event that it names,
     event: EventId,
@@ -117,7 +117,7 @@ impl Call for Lent {
     }
 }
 
-/// The call on a workbench of two activities, in which both events have times where that is asked for.
+/// The call on a workbench of two activities, whose events have times if `is_timed`.
 fn lend(alloc: Global, is_timed: bool, ask: Ask) -> Option<Lent> {
     let event = EventId::new(2)?;
     let edit = made::edit(made::Kind::Activity, 3)?;

@@ -1,4 +1,4 @@
-//! A keeper that counts what is pushed.
+//! A keeper that counts pushes.
 
 use pesp_base::{EventId, Refusal};
 use pesp_counts::CountKeeper;
@@ -6,12 +6,12 @@ use pesp_domains::{Keeper, NoRoom, Row};
 use pesp_instance::{Edit, Instance};
 use std::alloc::Global;
 
-/// A keeper, and how many pairs were pushed, those that were popped included. The count stays at the greatest number.
+/// A keeper, and the number of its pushes, popped ones included. The number saturates.
 #[derive(Drop)]
 pub(crate) struct Counting {
-    // That of which pushes are counted.
+    // The keeper whose pushes are counted.
     pub(crate) keeper: CountKeeper,
-    // It stays at the greatest number.
+    // The number of pushes, popped ones included. It saturates.
     pub(crate) pushed: u64,
 }
 

@@ -7,7 +7,7 @@ use pesp_instance::{Edit, Instance};
 
 #[derive(Drop)]
 struct Edited {
-    // That of before the edit.
+    // The instance before the edit.
     instance: Instance,
     // It may run out of memory.
     edit: Edit,

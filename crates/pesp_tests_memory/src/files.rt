@@ -1,4 +1,4 @@
-//! Files that are read and written, and what a timetable answers.
+//! Files that are read and written, and calls of a timetable.
 
 use crate::call::{Call, is_asked, is_wanted, try_and_drop};
 use crate::{made, showing};
@@ -30,7 +30,7 @@ enum Ask {
 
 #[derive(Drop)]
 struct Lent {
-    // What the call is asked of,
+    // The instance that the call is made on,
     instance: Instance,
     // with its timetable,
     times: Timetable,
@@ -145,7 +145,7 @@ fn timetable(alloc: Global, period: Period, times: &[(u32, u16)]) -> Option<Time
     Some(timetable)
 }
 
-/// Two activities, and a timetable with the times that are given.
+/// Two activities, and a timetable with the given times.
 fn two_with(alloc: Global, times: &[(u32, u16)], ask: Ask) -> Option<Lent> {
     let event = EventId::new(2)?;
     let instance = made::two(alloc)?;
@@ -160,7 +160,7 @@ fn two_with(alloc: Global, times: &[(u32, u16)], ask: Ask) -> Option<Lent> {
 
 const BOTH_TIMES: &[(u32, u16)] = &[(1, 0), (2, 3)];
 
-/// The calls by name, with the times that they find.
+/// The calls by name, with the times of the timetable.
 const CASES: &[(&str, &[(u32, u16)], Ask)] = &[
     ("Timetable::set", &[], Ask::Set),
     ("tensions", BOTH_TIMES, Ask::Tensions),

@@ -1,4 +1,4 @@
-//! Edits of what is kept.
+//! Edits of keepers.
 
 use crate::call::{Call, is_asked, is_wanted, try_call};
 use crate::made::{self, KINDS, Kind, MANY};

@@ -1,10 +1,11 @@
-//! What the calls are lent.
+//! What the calls need.
 
 use pesp_base::{Activity, ActivityId, EventId, Period, Span, Weight};
 use pesp_instance::{Edit, Instance};
 use std::alloc::Global;
 
-/// How many events and activities are there or come.
+/// Events and activities have numbers below this. It trades run time for more growths of each
+/// container; no measurement chose it.
 pub(crate) const MANY: u32 = 14;
 
 pub(crate) fn activity(number: u32, from: u32, to: u32) -> Option<Activity> {
@@ -39,7 +40,7 @@ pub(crate) fn two(alloc: Global) -> Option<Instance> {
     Some(instance)
 }
 
-/// The same with so many activities that there are too many cycles, and the tree alone is searched.
+/// The same with more activities. They make too many cycles, so only the tree is searched.
 pub(crate) fn dense(alloc: Global) -> Option<Instance> {
     let mut instance = two(alloc)?;
     for number in 3..1_005 {
@@ -50,7 +51,8 @@ pub(crate) fn dense(alloc: Global) -> Option<Instance> {
     Some(instance)
 }
 
-/// The edits that take memory, each of a number: an event more, an activity more, an activity that leads to another event.
+/// The edits that allocate, each of a number: a new event, a new activity, an activity that leads
+/// to another event.
 pub(crate) fn edit(kind: Kind, number: u32) -> Option<Edit> {
     Some(match kind {
         Kind::Event => Edit::AddEvent(EventId::new(number)?),

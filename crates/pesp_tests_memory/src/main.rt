@@ -1,4 +1,4 @@
-//! Makes public calls that can want memory, and tells what each answered and what it left.
+//! Makes public calls that can run out of memory, and prints the result of each and what it left.
 #![tactic(auto)]
 
 mod benches;

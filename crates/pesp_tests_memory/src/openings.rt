@@ -1,4 +1,4 @@
-//! Keepers that are made of an instance.
+//! Opening keepers of an instance.
 
 use crate::call::{Call, is_asked, try_and_drop};
 use crate::{made, showing, telling};
@@ -9,7 +9,7 @@ use std::marker::PhantomData;
 /// An instance that is not kept yet.
 #[derive(Drop)]
 struct Opened<K> {
-    // None once it was opened, or was not handed back.
+    // None once a keeper has it.
     instance: Option<Instance>,
     // Which keeper opens it.
     keeper: PhantomData<K>,

@@ -1,4 +1,4 @@
-//! Calls that take no memory.
+//! Calls that do not allocate.
 
 ghost use Rattle.std.specs.Prelude.{◌≡◌, []};
 
@@ -13,7 +13,7 @@ use pesp_shell_commands::parse;
 use std::alloc::Global;
 use std::marker::Model;
 
-/// The edits that take no memory, on two events and two activities.
+/// The edits that do not allocate, on two events and two activities.
 fn edits() -> Option<[Edit; 9]> {
     let (first, second) = (EventId::new(1)?, EventId::new(2)?);
     Some([
@@ -34,9 +34,9 @@ fn edits() -> Option<[Edit; 9]> {
 struct Edited<K: Keeper> {
     // Nothing is pushed on it.
     keeper: K,
-    // The one that is pushed and popped first.
+    // The event that is pushed and popped first.
     event: EventId,
-    // None of them takes memory.
+    // None of them allocates.
     edits: [Edit; 9],
 }
 
@@ -51,7 +51,7 @@ impl<K: Keeper> Model for Edited<K> {
     ghost invariant = { λ e. K.pushes e.keeper ≡ [] };
 }
 
-/// Pushes a residue of an event and takes it away again.
+/// Pushes a residue of an event and pops it again.
 fn push<K: Keeper>(rt: &impl Print, keeper: &mut K, event: EventId, residue: u16)
     requires { K.pushes keeper.old ≡ [] }
     ensures { K.pushes keeper.new ≡ [] }
@@ -91,9 +91,9 @@ impl<K: Keeper> Call for Edited<K> {
 struct Worked {
     // With times and a known optimum.
     bench: Bench<CountKeeper>,
-    // The one whose time is set.
+    // The event whose time is set.
     event: EventId,
-    // None of them takes memory.
+    // None of them allocates.
     edits: [Edit; 9],
 }
 
@@ -112,7 +112,7 @@ fn clear_time(rt: &impl Print, bench: &mut Bench<CountKeeper>, event: EventId) {
     showing::line(rt, &bench.cost());
 }
 
-/// What a window tells, and which residues are in it.
+/// Prints a window, and which residues are in it.
 fn ask_window(rt: &impl Print, period: Period, window: Window) {
     showing::line(rt, &window.first());
     showing::line(rt, &window.length());
@@ -122,7 +122,7 @@ fn ask_window(rt: &impl Print, period: Period, window: Window) {
     }
 }
 
-/// A window that is made, and those of the events.
+/// Makes a window and prints it and those of the events.
 fn ask_windows(rt: &impl Print, instance: &Instance) {
     let period = instance.period();
     if let Some(window) = Window::new(period, 9, 3) {
@@ -135,7 +135,7 @@ fn ask_windows(rt: &impl Print, instance: &Instance) {
     }
 }
 
-/// The counts of the residues at which each activity can begin, and what lines say.
+/// Prints the counts at the residues of each activity's first event, and the commands of lines.
 fn ask(rt: &impl Print, bench: &Bench<CountKeeper>) {
     for activity in bench.instance().activities() {
         for residue in 0..bench.instance().period().get() {

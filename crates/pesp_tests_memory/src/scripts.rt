@@ -11,7 +11,7 @@ const SCRIPT: &[u8] = b"add event 1\nadd event 2\nadd activity 1 1 2 3 5 2\nfix 
 
 #[derive(Drop)]
 struct Replayed {
-    // That of the instance that the script makes.
+    // The period of the instance that the script makes.
     period: Period,
 }
 

@@ -1,4 +1,5 @@
-//! Searches of what is kept. How many pairs were pushed is told with the keeper, so a search that wants memory after its first node is seen.
+//! Searches of keepers. The number of pushes is printed with the keeper, so a search that runs out
+//! of memory after its first node is recognized.
 
 ghost use Rattle.std.specs.Prelude.{◌≡◌, []};
 
@@ -11,7 +12,7 @@ use pesp_search::{Known, Tried, best, best_within, known_within};
 use std::alloc::Global;
 use std::marker::Model;
 
-/// What is asked, with how many nodes the search may have.
+/// The search that is made, with its limit of nodes if it has one.
 #[derive(Clone, Copy)]
 enum Asked {
     Best,
@@ -19,11 +20,12 @@ enum Asked {
     Known(u64),
 }
 
-/// A keeper with nothing pushed, and what its search is asked.
+/// A keeper with nothing pushed, and the search that is made.
 #[derive(Drop)]
 struct Searched {
     // Nothing is pushed on it.
     keeper: Counting,
+    // The search that is made on it.
     asked: Asked,
 }
 

@@ -1,4 +1,4 @@
-//! Answers and what calls are lent, as lines. To print takes no memory.
+//! Results and what calls need, as lines. Printing does not allocate.
 
 use pesp_instance::Instance;
 use pesp_tension::Timetable;

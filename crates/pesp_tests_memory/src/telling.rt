@@ -1,4 +1,4 @@
-//! Keepers, answers and workbenches, as lines. To print takes no memory.
+//! Keepers, results and workbenches, as lines. Printing does not allocate.
 
 use crate::showing;
 use pesp_base::EventId;
@@ -17,7 +17,7 @@ fn residues<K: Keeper>(rt: &impl Print, keeper: &K, event: EventId) {
     }
 }
 
-/// A line for how many residues the event can take, and one for each.
+/// A line for the number of residues that the event can take, and one for each of them.
 fn domain<K: Keeper>(rt: &impl Print, keeper: &K, event: EventId) {
     if let Some(row) = keeper.row(event) {
         let _ = println!(rt; "{} can take {} residues", event.get(), row.len());
@@ -41,7 +41,7 @@ pub(crate) fn best(rt: &impl Print, word: &str, cost: u64, times: &Timetable) {
     }
 }
 
-/// What a search had found where it stopped.
+/// What a stopped search had found.
 pub(crate) fn stopped(rt: &impl Print, found: &Option<Best>) {
     if let Some(found) = found {
         best(rt, "stopped", found.cost, &found.times);
@@ -58,7 +58,7 @@ pub(crate) fn answer(rt: &impl Print, word: &str, answer: &Answer) {
     }
 }
 
-/// All that a workbench tells of itself without memory.
+/// All that a workbench reports of itself without allocating.
 pub(crate) fn bench(rt: &impl Print, bench: &Bench<CountKeeper>) {
     keeper(rt, bench.keeper());
     showing::line(rt, &bench.keeper().restored());

@@ -1,4 +1,5 @@
-//! Workbenches, made step by step: a function for each step, which tells its callers nothing, is soon proved.
+//! Workbenches, made step by step. Each step is a function without a contract, which keeps the
+//! proofs short.
 
 use crate::made;
 use pesp_base::EventId;
@@ -26,7 +27,7 @@ fn find_optimum(alloc: Global, bench: &mut Bench<CountKeeper>) -> Option<()> {
     bench.find_optimum(alloc).ok()
 }
 
-/// A workbench of two activities, with a time for each event where that is asked for.
+/// A workbench of two activities, with a time for each event if `is_timed`.
 pub(crate) fn bench(alloc: Global, is_timed: bool) -> Option<Bench<CountKeeper>> {
     let mut bench = untimed(alloc)?;
     let is_made = !is_timed || set_times(&mut bench).is_some();

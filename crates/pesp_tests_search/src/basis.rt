@@ -1,4 +1,4 @@
-//! Cycles of networks, and ways through them.
+//! Cycles of networks, and paths through them.
 
 mod drawn;
 mod examples;

@@ -1,4 +1,4 @@
-//! Least costs and first maps of small networks, which another program found, which tries all maps.
+//! Least costs and first maps of small networks, found by another program that tries all maps.
 
 ghost use Rattle.std.specs.Prelude.{◌+◌, ◌<◌, ◌^◌};
 ghost use Rattle.pesp_search_least.specs.Sums.{IsLeast, IsOutcome};
@@ -11,7 +11,7 @@ use pesp_search_network::Network;
 use std::alloc::Global;
 use std::process::Abort;
 
-/// What a search finds below the cap with so much of a budget.
+/// The result of a search below the cap with these units.
 fn found(rt: &impl Abort, alloc: Global, network: &Network, cap: u64, units: u64) -> Outcome
     ensures { IsOutcome (IsCosted network.now) cap result }
 {
@@ -19,12 +19,12 @@ fn found(rt: &impl Abort, alloc: Global, network: &Network, cap: u64, units: u64
     let mut budget = Budget::of(units);
     let mut cycles = ByCycles::new(alloc);
     let outcome = network.least(alloc, &mut cycles, limits, &mut budget);
-    // In a call of its own, so that a proof does not go through all its parts.
+    // A call of its own, so that proofs do not unfold all parts of the value.
     drop(cycles);
     outcome.ok().expect(rt, "memory")
 }
 
-/// A map of least cost, which is this one.
+/// A map of least cost, which has this cost.
 fn least_at(rt: &impl Abort, alloc: Global, network: &Network, cost: u64) -> Candidate
     ensures least { IsLeast (IsCosted network.now) result }
     ensures room { result.cost + 1 < 2 ^ 64 }
@@ -39,7 +39,7 @@ fn least_at(rt: &impl Abort, alloc: Global, network: &Network, cost: u64) -> Can
     candidate
 }
 
-/// The first map of least cost, and that cost.
+/// Compares the first map of least cost, and its cost.
 fn try_first(rt: &impl Abort, alloc: Global, network: &Network, cost: u64, map: &[u16]) {
     let candidate = least_at(rt, alloc, network, cost);
     let mut budget = Budget::of(1_000_000);

@@ -1,7 +1,6 @@
-//! The searches for a map of least cost, and what they use, by their public calls.
+//! Tests of the search for a map of least cost and of its lower crates, by their public calls.
 //!
-//! The tests stand above the crates that they test, so that none of these is proved a second time
-//! with tests in it.
+//! They are in a crate above the tested ones, so that none of those is proved a second time with tests in it.
 #![tactic(auto)]
 
 #[cfg(test)]

@@ -1,4 +1,4 @@
-//! Maps that are made of slacks, polished and searched for.
+//! Maps: computed from slacks, polished, and searched for.
 
 mod examples;
 mod searches;

@@ -1,4 +1,4 @@
-//! Pieces of networks, and networks of which tied events are joined.
+//! Pieces of networks, and networks with merged events.
 
 mod pieces;
 mod presolve;

@@ -9,7 +9,7 @@ use std::process::Abort;
 /// The ends of an arc, its bounds and its weight.
 pub(crate) type Line = (usize, usize, i32, i32, u32);
 
-/// An event, and from which residue on and before which one it may stand.
+/// An event, and its window: the first residue, and the one after the last.
 pub(crate) type Row = (usize, u16, u16);
 
 /// A cycle of four events, two arcs across it, and a loop.
@@ -47,7 +47,7 @@ pub(crate) const THREE_PARTS: &[Line] = &[
     (8, 6, 4, 10, 2),
 ];
 
-/// A chain that hangs on a cycle.
+/// A chain joined to a cycle.
 pub(crate) const CHAIN: &[Line] = &[
     (0, 1, 2, 9, 5),
     (1, 2, 2, 8, 3),
@@ -95,7 +95,7 @@ fn hold(rt: &impl Abort, network: &mut Network, row: Row) {
     }
 }
 
-/// The network of these arcs and rows, at period ten.
+/// The network with these arcs and windows, at period ten.
 pub(crate) fn network_of(
     rt: &impl Abort,
     alloc: Global,

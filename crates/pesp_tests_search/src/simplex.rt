@@ -1,4 +1,4 @@
-//! Least sums of drawn problems, and single calls.
+//! Optima of random problems, and single calls.
 
 mod drawn;
 mod examples;

@@ -1,14 +1,14 @@
-//! Assertions in small functions: where a message is written out, its text is proved once more.
+//! Assertions in small functions: a message that is written out is proved each time.
 
 use std::fmt::Debug;
 use std::process::Abort;
 
-/// It holds.
+/// The condition holds.
 pub(crate) fn hold(rt: &impl Abort, holds: bool, message: &str) {
     assert!(rt; holds, "{message}");
 }
 
-/// It holds, and the message is words and a number.
+/// The condition holds. The message is words and a number.
 pub(crate) fn hold_at(rt: &impl Abort, holds: bool, words: &str, number: usize) {
     assert!(rt; holds, "{words} {number}");
 }
@@ -34,7 +34,7 @@ pub(crate) fn same_at<T: PartialEq + Debug + Drop>(
     assert_eq!(rt; found, wanted, "{words} {number}");
 }
 
-/// Both are the same with a keeper.
+/// Both are the same, over a keeper.
 pub(crate) fn same_with<T: PartialEq + Debug + Drop>(
     rt: &impl Abort,
     found: T,

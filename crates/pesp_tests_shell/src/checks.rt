@@ -21,7 +21,7 @@ const EMPTY_REPLIES: &str = "tensions 0\nviolations 0\ncost 0\n";
 
 /// The replies for three files at period 10.
 ///
-/// Like the next function it has no contract, so that no text is worked out while the tests are proved.
+/// Like the next function it has no contract, so that proofs of the tests compute no text.
 fn checked(
     rt: &(impl Abort + AllocGlobal),
     activities: &str,

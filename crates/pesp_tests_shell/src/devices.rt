@@ -1,4 +1,4 @@
-//! Devices that give or take small pieces, and that break at one of their calls; and runs over them.
+//! Devices that move small pieces, and that break at one of their calls; and runs over them.
 
 use crate::sessions::{Given, period};
 use pesp_domains::Keeper;
@@ -6,25 +6,25 @@ use pesp_shell::{Noted, RunFault, run};
 use std::io::{self, Read, Write};
 use std::process::Abort;
 
-/// What a device does at a call.
+/// The behaviour of a device at a call.
 #[derive(Clone, Copy)]
 pub(crate) enum Manner {
-    /// It gives or takes some bytes.
+    /// It moves some bytes.
     Works,
-    /// It answers an error.
+    /// It returns an error.
     Fails,
-    /// It answers that there were no bytes.
+    /// It reports that there were no bytes.
     Idles,
 }
 
-/// How many bytes a device gives or takes at a call, and what it does from which call on.
+/// The size of a device's pieces, and from which call on it is broken, and how.
 #[derive(Clone, Copy)]
 pub(crate) struct Habit {
-    // How many bytes a call moves at most.
+    // The greatest number of bytes that a call moves.
     pub(crate) size: usize,
-    // How many calls come before it breaks.
+    // The number of calls before it breaks.
     pub(crate) calls: usize,
-    // From then on.
+    // Its behaviour from then on.
     pub(crate) broken: Manner,
 }
 
@@ -37,7 +37,7 @@ pub(crate) fn sound(size: usize) -> Habit {
     }
 }
 
-/// Counts the calls that a device broke, and says what it does at this one.
+/// Counts the calls of a broken device, and returns its behaviour at this call.
 fn next_manner(habit: &mut Habit, broken_calls: &mut usize) -> Manner {
     if habit.calls > 0 {
         habit.calls -= 1;
@@ -49,14 +49,14 @@ fn next_manner(habit: &mut Habit, broken_calls: &mut usize) -> Manner {
     habit.broken
 }
 
-/// Gives some bytes.
+/// Returns some bytes at each call.
 #[derive(Drop)]
 struct Pieces<'a> {
-    // Those that are left.
+    // The remaining bytes.
     bytes: &'a [u8],
-    // Its calls fall to 0.
+    // Its `calls` fall to 0.
     habit: Habit,
-    // How often it was called after that.
+    // The number of calls after that.
     broken_calls: &'a mut usize,
 }
 
@@ -74,16 +74,16 @@ impl Read for Pieces<'_> {
     }
 }
 
-/// Takes bytes, and flushes them where it does so.
+/// Accepts bytes, and flushes them if it can.
 #[derive(Drop)]
 struct Narrow<'a> {
-    // All bytes that it took.
+    // All accepted bytes.
     taken: &'a mut Vec<u8>,
-    // Its calls fall to 0.
+    // Its `calls` fall to 0.
     habit: Habit,
     // Whether a flush succeeds.
     flushes: bool,
-    // How often it was called after it broke.
+    // The number of calls after it broke.
     broken_calls: &'a mut usize,
 }
 
@@ -128,12 +128,12 @@ pub(crate) fn pieces_of(size: usize) -> Devices {
     }
 }
 
-/// What a run ends with, its output, and how many calls of broken devices it made.
+/// The result of a run, its output, and the number of calls of broken devices.
 #[derive(Drop)]
 pub(crate) struct Ending {
-    // None where the run answered all lines.
+    // None if the run answered all lines.
     pub(crate) fault: Option<RunFault>,
-    // What the sink took.
+    // The bytes that the sink accepted.
     pub(crate) output: Vec<u8>,
     // Of both devices.
     pub(crate) broken_calls: usize,

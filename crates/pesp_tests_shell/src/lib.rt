@@ -1,6 +1,6 @@
 //! The worked examples of runs, checks and command lines.
 //!
-//! They stand above pesp_shell, so that it is not proved a second time with tests in it.
+//! They are in a crate above pesp_shell, so that it is not proved again with tests in it.
 #![tactic(auto)]
 
 #[cfg(test)]

@@ -1,4 +1,4 @@
-//! Command lines, refused lines, and the help.
+//! Command lines, refused lines, help and version.
 
 use crate::asserts::{hold, same};
 use clap::Error;
@@ -9,12 +9,13 @@ use std::alloc::{AllocError, Global};
 use std::process::Abort;
 use std::test::Fail;
 
-/// What is asked for: the period, the files of fixed times, of times and of activities, and whether to check.
+/// The settings: the period, the files of fixed times, of times and of activities, and whether to
+/// check.
 type Asked<'a> = (u16, Option<&'a str>, Option<&'a str>, Option<&'a str>, bool);
 
 /// The words of a line.
 ///
-/// Like the next functions it has no contract, so that no word is worked out while the tests are proved.
+/// Like the next functions it has no contract, so that proofs of the tests compute no word.
 fn words<'a>(alloc: Global, line: &'a str) -> Result<Vec<&'a str>, AllocError> {
     line.split(' ').collect(alloc)
 }
@@ -83,7 +84,7 @@ fn refused_lines(rt: HostRuntime) -> Result<(), Fail> {
         ("pespbench --check --check", ErrorKind::ArgumentConflict),
         ("pespbench a.act b.act", ErrorKind::UnknownArgument),
         ("pespbench --other", ErrorKind::UnknownArgument),
-        ("pespbench --version", ErrorKind::UnknownArgument),
+        ("pespbench --version=1", ErrorKind::TooManyValues),
     ];
     for (line, wanted) in table {
         let words = words(rt.alloc(), line)?;
@@ -93,17 +94,40 @@ fn refused_lines(rt: HostRuntime) -> Result<(), Fail> {
     Ok(())
 }
 
-/// What an error tells.
+/// The text of an error.
 fn told(alloc: Global, error: &Error) -> Result<String, AllocError> {
     format!(in alloc; "{error}")
 }
 
-/// What help says of the limits on the period.
+/// The limits of the period, as help has them.
 fn limits(alloc: Global) -> Result<String, AllocError> {
     format!(in alloc; "The period, {LEAST_PERIOD} to {GREATEST_PERIOD}")
 }
 
-/// An error is help, and tells the limits.
+/// An error is the version, and states its number.
+fn assert_version(rt: &impl Abort, kind: ErrorKind, text: &str, line: &str) {
+    same(rt, kind, ErrorKind::DisplayVersion, line);
+    same(rt, text, "pespbench 0.2.0+unreleased\n", line);
+}
+
+#[test]
+fn version_by_each_form(rt: HostRuntime) -> Result<(), Fail> {
+    let alloc = rt.alloc();
+    let lines = [
+        "pespbench --version",
+        "pespbench -V",
+        "pespbench a.act --check -V",
+    ];
+    for line in lines {
+        let words = words(alloc, line)?;
+        let version = asked(alloc, words.as_slice()).err().ok_or("no version")?;
+        let text = told(alloc, &version)?;
+        assert_version(&rt, version.kind(), text.as_str(), line);
+    }
+    Ok(())
+}
+
+/// An error is help, and states the limits.
 fn assert_help(rt: &impl Abort, kind: ErrorKind, text: &str, limits: &str) {
     same(rt, kind, ErrorKind::DisplayHelp, text);
     hold(rt, text.contains(limits), text);

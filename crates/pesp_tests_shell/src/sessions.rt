@@ -20,7 +20,7 @@ pub(crate) fn period(rt: &impl Abort, length: u16) -> Period {
 /// A period, and the texts of the three files.
 #[derive(Clone, Copy)]
 pub(crate) struct Given {
-    // That of the run.
+    // The period of the run.
     pub(crate) period: u16,
     // Each file as FORMATS has it;
     pub(crate) activities: &'static str,
@@ -40,9 +40,9 @@ pub(crate) fn alone(period: u16, activities: &'static str) -> Given {
     }
 }
 
-/// What a run over memory ends with, and its output.
+/// The result of a run over memory, and its output.
 ///
-/// It has no contract, so that no text is worked out while the tests are proved.
+/// It has no contract, so that proofs of the tests compute no text.
 fn answered<K: Keeper, R: Abort + AllocGlobal>(
     rt: &R,
     given: Given,
@@ -77,7 +77,7 @@ fn assert_run_by<K: Keeper, R: Abort + AllocGlobal>(
     same_with(rt, output.as_slice(), wanted.1.as_bytes(), keeper, message);
 }
 
-/// A run ends so with each keeper, and with this output.
+/// A run ends like this with each keeper, and has this output.
 fn assert_run<R: Abort + AllocGlobal>(
     rt: &R,
     given: Given,
@@ -278,7 +278,7 @@ fn texts_and_times(rt: HostRuntime) {
     }
 }
 
-/// A question for the cost, and after it a line of so many blanks.
+/// A question for the cost, and then a line of this number of blanks.
 fn cost_and_blanks(alloc: Global, length: usize) -> Result<Vec<u8>, AllocError> {
     let blanks = vec![in alloc; b' '; length]?;
     let mut input = Vec::new(alloc);

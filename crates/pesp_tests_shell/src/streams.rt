@@ -14,7 +14,7 @@ const STORED: &str = "add event 2\nadd event 1\nadd activity 1 1 2 3 5 2\noptimu
 
 const STORED_REPLIES: &str = "ok\nok\nok\noptimum 0 2\n1 0\n2 3\n";
 
-/// The stored run over such devices, with one keeper or the other.
+/// The stored run over these devices, with either keeper.
 fn stored<R: Abort + AllocGlobal>(rt: &R, counts: bool, devices: Devices) -> Ending {
     let given = alone(60, "");
     if counts {
@@ -46,7 +46,7 @@ fn stored_run_in_pieces(rt: HostRuntime) {
     }
 }
 
-/// The fault that a broken device makes, where it was called: once, after a first part of the replies.
+/// The fault of a broken device, if it was called: once, after a first part of the replies.
 fn assert_broken<R: Abort + AllocGlobal>(rt: &R, ending: &Ending, wanted: RunFault, calls: usize) {
     let replies = STORED_REPLIES.as_bytes();
     if ending.broken_calls == 0 {
@@ -60,7 +60,7 @@ fn assert_broken<R: Abort + AllocGlobal>(rt: &R, ending: &Ending, wanted: RunFau
     }
 }
 
-/// The stored run over a source that breaks after so many calls, in pieces of this size.
+/// The stored run over a source that breaks after this number of calls, in pieces of this size.
 fn assert_source<R: Abort + AllocGlobal>(rt: &R, counts: bool, size: usize, calls: usize) {
     let source = Habit {
         size,
@@ -85,7 +85,7 @@ fn source_fails_at_each_call(rt: HostRuntime) {
     }
 }
 
-/// The stored run over a sink that takes one byte a call and breaks after so many.
+/// The stored run over a sink that accepts one byte a call and breaks after this number of calls.
 fn assert_sink<R: Abort + AllocGlobal>(rt: &R, counts: bool, broken: Manner, calls: usize) {
     let sink = Habit {
         size: 1,
@@ -159,7 +159,7 @@ fn half_a_line(rt: HostRuntime) {
     }
 }
 
-/// What a run ends with over so many bytes of one kind.
+/// The result of a run over this number of equal bytes.
 fn repeated<R: Abort + AllocGlobal>(rt: &R, byte: u8, count: usize) -> Result<Ending, AllocError> {
     let input = vec![in rt.alloc(); byte; count]?;
     let given = alone(10, TWO);
@@ -180,7 +180,7 @@ fn long_streams(rt: HostRuntime) -> Result<(), Fail> {
     Ok(())
 }
 
-/// Words, and so many digits after them.
+/// Words, and this number of digits after them.
 fn line_of(alloc: Global, words: &str, digit: u8, count: usize) -> Result<Vec<u8>, AllocError> {
     let digits = vec![in alloc; digit; count]?;
     let mut line = Vec::new(alloc);

@@ -70,7 +70,7 @@ fn first_faulty_activity_is_named(rt: HostRuntime) {
     }
 }
 
-/// Puts the row of an activity after a text.
+/// Appends the row of an activity.
 fn put_row(
     text: &mut String,
     number: u32,
@@ -81,7 +81,7 @@ fn put_row(
     writeln!(text, "{number}; {from}; {to}; {rest}")
 }
 
-/// So many loops, each at an event of its own.
+/// This number of loops, each at an event of its own.
 fn loops(alloc: Global, count: u32) -> Result<String, Fail> {
     let mut text = String::new(alloc);
     for number in 0..count {
@@ -90,7 +90,7 @@ fn loops(alloc: Global, count: u32) -> Result<String, Fail> {
     Ok(text)
 }
 
-/// So many activities between two events.
+/// This number of activities between two events.
 fn between_two_events(alloc: Global, count: u32) -> Result<String, Fail> {
     let mut text = String::new(alloc);
     for number in 0..count {
@@ -99,7 +99,8 @@ fn between_two_events(alloc: Global, count: u32) -> Result<String, Fail> {
     Ok(text)
 }
 
-/// The fault of a text stands in the last of so many rows, and in none of them where there is one fewer.
+/// A file of this number of rows has the fault in the last one, and a file of one row fewer has
+/// none.
 fn full_at(
     rt: &(impl Abort + AllocGlobal),
     length: u16,
@@ -118,7 +119,7 @@ fn full_at(
     Ok(())
 }
 
-/// Periods, and for each the first event and the first activity that is one too many.
+/// Periods, with the first event and the first activity beyond the limit of each.
 const LIMITS: &[(u16, u32, u32)] = &[
     (60, 20_001, 100_001),
     (121, 19_835, 99_174),

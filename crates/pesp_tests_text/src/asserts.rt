@@ -1,4 +1,4 @@
-//! Assertions in small functions: where a message is written out, its text is proved once more.
+//! Assertions in small functions: a message that is written out is proved each time.
 
 use pesplib_reader::{FaultKind, ReadFault};
 use std::fmt::Debug;

@@ -1,4 +1,4 @@
-//! Files written: the worked examples.
+//! The worked examples of written files.
 
 use crate::asserts::same_text;
 use crate::made::{apply, event, lone_event};
@@ -12,7 +12,7 @@ const ACTIVITIES: &str = "1; 1; 2; 3; 5; 2\n2; 2; 1; 4; 6; 1\n";
 
 /// The activities of a file, written again.
 ///
-/// Like the next functions it has no contract, so that no text is worked out while the tests are proved.
+/// Like the next functions it has no contract, so that proofs of the tests compute no text.
 fn activities_written(rt: &(impl Abort + AllocGlobal), activities: &str) -> Result<Vec<u8>, Fail> {
     let instance = read_both(rt, activities, "")?;
     Ok(write_activities(rt.alloc(), &instance)?)

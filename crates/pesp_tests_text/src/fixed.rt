@@ -1,4 +1,4 @@
-//! Files of fixed times: the worked examples.
+//! The worked examples of files of fixed times.
 
 use crate::asserts::{refused, same};
 use crate::made::{apply, assert_fixed, event};
@@ -26,7 +26,7 @@ fn assert_refused(
     );
 }
 
-/// A file is taken, and the events are then fixed at these times, or not at all.
+/// A file is accepted, and the events are then fixed at these times, or not at all.
 fn assert_taken(
     rt: &(impl Abort + AllocGlobal),
     instance: &mut Instance,
@@ -50,7 +50,7 @@ const REFUSED: &[(&str, u64, FaultKind)] = &[
     ("1; 0\n2; 3; 4", 2, FaultKind::FieldCount),
 ];
 
-/// A fixed time from a file takes the place of a window of any length.
+/// A fixed time from a file replaces a window of any length.
 fn fix_in_place_of_a_window(rt: &(impl Abort + AllocGlobal), instance: &mut Instance) {
     apply(rt, instance, Edit::SetWindow(event(rt, 2), 0, 3));
     assert_fixed(rt, instance, (Some(3), None), "a window of three residues");
@@ -58,7 +58,7 @@ fn fix_in_place_of_a_window(rt: &(impl Abort + AllocGlobal), instance: &mut Inst
     assert_taken(rt, instance, "2; 7\n", times, "in place of a window");
 }
 
-/// Faulty files first, and then two that are taken.
+/// Faulty files first, and then two that are accepted.
 fn assert_files(rt: &(impl Abort + AllocGlobal), instance: &mut Instance) {
     for (text, place, kind) in REFUSED {
         assert_refused(rt, instance, text, *place, *kind);

@@ -1,7 +1,7 @@
 //! The worked examples of files, scripts, lines, commands and replies.
 //!
-//! They stand above the crates whose calls they try, so that none of these is proved a second time
-//! with tests in it.
+//! They are in a crate above those that they call, so that none of these is proved again with tests
+//! in it.
 #![tactic(auto)]
 
 #[cfg(test)]

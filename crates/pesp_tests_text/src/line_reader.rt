@@ -1,4 +1,4 @@
-//! Devices that give their bytes in pieces, that fail, and that have no end.
+//! Devices that return their bytes in pieces, that fail, and that have no end.
 
 use crate::asserts::{same_at, same_text};
 use pesp_shell_io::{Failed, Front, LONGEST_LINE, LineReader, Noted};
@@ -6,14 +6,14 @@ use std::alloc::{AllocError, Global};
 use std::io::{self, Read};
 use std::test::Fail;
 
-/// Gives bytes in pieces of at most `size` bytes. After them it fails, or is at its end.
+/// Returns bytes in pieces of at most `size` bytes. Then it fails, or is at its end.
 #[derive(Drop)]
 struct Pieces<'a> {
-    // Those that are left.
+    // The remaining bytes.
     bytes: &'a [u8],
     // At least 1.
     size: usize,
-    // Whether it fails once none are left.
+    // Whether it fails when no bytes remain.
     fails: bool,
 }
 
@@ -29,7 +29,7 @@ impl Read for Pieces<'_> {
     }
 }
 
-/// Puts bytes after a text, and a mark after them.
+/// Appends bytes, and a mark.
 fn put_marked(text: &mut Vec<u8>, bytes: &[u8], mark: u8) -> Result<(), AllocError> {
     text.extend_from_slice(bytes)?;
     text.push(mark)?;
@@ -65,7 +65,7 @@ fn told(rt: &impl AllocGlobal, device: impl Read + Drop) -> Result<Vec<u8>, Allo
     Ok(text)
 }
 
-/// What is told of a text that comes in pieces of at most so many bytes.
+/// The same for a text that arrives in pieces of at most this number of bytes.
 fn told_in_pieces(
     rt: &impl AllocGlobal,
     text: &str,
@@ -99,14 +99,15 @@ fn lines_come_in_pieces(rt: HostRuntime) -> Result<(), Fail> {
     Ok(())
 }
 
-/// A line of so many bytes, with its line feed.
+/// A line of this number of bytes, with its line feed.
 fn long_line(alloc: Global, length: usize) -> Result<Vec<u8>, AllocError> {
     let mut text = vec![in alloc; b'#'; length]?;
     text.push(b'\n')?;
     Ok(text)
 }
 
-/// The first mark that is told of a line of so many bytes that comes in pieces of at most `size` bytes.
+/// The first mark for a line of this number of bytes that arrives in pieces of at most `size`
+/// bytes.
 fn first_mark(rt: &impl AllocGlobal, length: usize, size: usize) -> Result<Option<u8>, AllocError> {
     let text = long_line(rt.alloc(), length)?;
     let bytes = text.as_slice();

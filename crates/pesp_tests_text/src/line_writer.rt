@@ -1,4 +1,4 @@
-//! Devices that take few bytes at a time, that take no more, and that fail.
+//! Devices that accept few bytes at a time, that accept no more, and that fail.
 
 ghost use Rattle.std.specs.Prelude.{◌≡◌, false};
 
@@ -7,14 +7,14 @@ use pesp_shell_io::{ByteSink, Failed, Noted, put_all};
 use std::io::{self, Write};
 use std::process::Abort;
 
-/// Takes at most `size` bytes at a time, and no more than `room` bytes in all.
+/// Accepts at most `size` bytes at a time, and at most `room` bytes in all.
 #[derive(Drop)]
 struct Narrow<'a> {
-    // All bytes that it took.
+    // All accepted bytes.
     taken: &'a mut Vec<u8>,
     // At least 1.
     size: usize,
-    // How many it still takes.
+    // The number of bytes that it still accepts.
     room: usize,
 }
 
@@ -34,7 +34,7 @@ impl Write for Narrow<'_> {
     }
 }
 
-/// Puts a text into a sink, and finishes it there where all of it was put. What the two answer.
+/// Writes a text to a sink, and finishes it if all was written. Returns both results.
 fn put_and_finish<W: ByteSink>(
     sink: &mut W,
     text: &[u8],
@@ -47,7 +47,7 @@ fn put_and_finish<W: ByteSink>(
     (Ok(()), sink.finish())
 }
 
-/// Puts a text into a device that takes so much, and finishes it there. What the two answer.
+/// Writes a text to a device with this room, and finishes it. Returns both results.
 fn put_into(
     taken: &mut Vec<u8>,
     text: &[u8],

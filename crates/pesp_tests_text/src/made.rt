@@ -1,4 +1,4 @@
-//! Numbers, spans and activities for the examples, and what more than one of them asserts.
+//! Numbers, spans and activities for the examples, and assertions that several of them share.
 
 use crate::asserts::same;
 use pesp_base::{Activity, ActivityId, EventId, Period, Span, Weight};
@@ -25,7 +25,7 @@ pub(crate) fn weight(rt: &impl Abort, value: u32) -> Weight {
     Weight::new(value).expect(rt, "a weight")
 }
 
-/// An activity of this number, from the first of these events to the second.
+/// An activity with this number, from the first of these events to the second.
 pub(crate) fn activity(
     rt: &impl Abort,
     number: u32,
@@ -65,7 +65,7 @@ pub(crate) fn lone_event(rt: &(impl Abort + AllocGlobal), number: u32) -> Instan
     instance
 }
 
-/// An event of this number, without a window.
+/// An event with this number, without a window.
 fn unfixed(rt: &impl Abort, number: u32) -> Event {
     Event {
         id: event(rt, number),

@@ -1,4 +1,4 @@
-//! One line of each command, the faults in their order, and lines that say nothing.
+//! One line of each command, the faults in their order, and lines without a command.
 
 use crate::asserts::same;
 use crate::made::{activity, event, id, span, weight};

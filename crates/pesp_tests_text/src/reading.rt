@@ -1,6 +1,6 @@
 //! Files read for the examples.
 //!
-//! No function here has a contract, so that no text is worked out while the examples are proved.
+//! No function here has a contract, so that proofs of the examples compute no text.
 
 use crate::made::period;
 use pesp_base::Period;

@@ -1,4 +1,4 @@
-//! Scripts, what a dump of them gives, their faults, and the limits.
+//! Scripts, their dumps, their faults, and the limits.
 
 use crate::asserts::{same, same_text};
 use crate::made::{assert_fixed, assert_two_activities, event, period};
@@ -10,17 +10,17 @@ use std::alloc::{AllocError, Global};
 use std::process::Abort;
 use std::test::Fail;
 
-/// What a script makes at period 10.
+/// The instance that a script makes at period 10.
 fn replay_at_ten(rt: &(impl Abort + AllocGlobal), script: &[u8]) -> Result<Instance, ReplayFault> {
     replay(rt.alloc(), period(rt, 10), script)
 }
 
-/// How long the period of an instance is.
+/// The period of an instance, as a number.
 fn period_of(instance: &Instance) -> u16 {
     instance.period().get()
 }
 
-/// What a script at period 10 makes, dumped.
+/// The dump of the instance that a script makes at period 10.
 fn dumped(rt: &(impl Abort + AllocGlobal), script: &str) -> Result<Vec<u8>, Fail> {
     let instance = replay_at_ten(rt, script.as_bytes())?;
     Ok(dump(rt.alloc(), &instance)?)
@@ -133,7 +133,7 @@ fn first_faulty_line_is_named(rt: HostRuntime) {
     }
 }
 
-/// A byte so many times.
+/// This number of copies of a byte.
 fn repeated(alloc: Global, byte: u8, count: usize) -> Result<Vec<u8>, AllocError> {
     vec![in alloc; byte; count]
 }

@@ -1,4 +1,4 @@
-//! Replies to lines: the worked examples, by the lines of commands.
+//! The worked examples of replies, as sessions of lines.
 
 use crate::asserts::same_text;
 use crate::made::period;
@@ -51,7 +51,7 @@ fn assert_session(rt: &(impl Abort + AllocGlobal), lines: &[(&str, &str)]) {
     assert_replies(rt, &mut two_activities(rt), lines);
 }
 
-/// Times that are set, taken away and adopted.
+/// Times that are set, removed and adopted.
 const WORKING_TIMETABLE: &[(&str, &str)] = &[
     ("time 1 0", "ok\n"),
     ("time 2 12", "refused 4 time 12 is out of range\n"),

@@ -1,4 +1,4 @@
-//! Instances written as scripts: the worked examples.
+//! The worked examples of instances written as scripts.
 
 use crate::asserts::same_text;
 use crate::made::{apply, event, lone_event};
@@ -10,7 +10,7 @@ use std::test::Fail;
 
 /// The script of the instance of these files at period 10.
 ///
-/// Like the next function it has no contract, so that no text is worked out while the tests are proved.
+/// Like the next function it has no contract, so that proofs of the tests compute no text.
 fn dumped(rt: &(impl Abort + AllocGlobal), activities: &str, fixed: &str) -> Result<Vec<u8>, Fail> {
     let instance = read_both(rt, activities, fixed)?;
     Ok(dump(rt.alloc(), &instance)?)

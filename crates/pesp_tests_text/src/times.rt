@@ -1,4 +1,4 @@
-//! Files of times: the worked examples.
+//! The worked examples of files of times.
 
 use crate::asserts::{refused, same};
 use crate::made::event;

@@ -1,4 +1,4 @@
-//! Activities, in a file.
+//! Files of activities.
 
 ghost use Rattle.std.specs.Prelude.{◌≡◌, ◌≤◌, ◌++◌, ◌∷◌, [], true, nat_lt, None, Ok, IfSome, IfOk, IfErr, OnOk, length};
 ghost use Rattle.pesp_base.specs.Limits as limits;
@@ -17,7 +17,7 @@ use pesp_base::{Activity, EventId, Period, Refusal, max_activities, max_events};
 use pesp_instance::{Edit, Instance};
 use std::alloc::Global;
 
-/// How many events there are with the ends of an activity.
+/// The number of events together with the ends of an activity.
 fn count_with_ends(instance: &Instance, activity: &Activity) -> usize
     ensures { result ≡ length (with_ends instance.now activity.now).events }
 {
@@ -31,9 +31,9 @@ fn count_with_ends(instance: &Instance, activity: &Activity) -> usize
     count
 }
 
-/// Whether there are too many events with the ends of an activity.
+/// Whether there are too many events together with the ends of an activity.
 ///
-/// They are at most two new ones, so they are looked up near the limit alone.
+/// At most two ends are new, so they are looked up only near the limit.
 fn exceeds_with_ends(instance: &Instance, activity: &Activity) -> bool
     ensures { result ≡ nat_lt (limits.max_events instance.now.period)
         (length (with_ends instance.now activity.now).events) }
@@ -45,7 +45,7 @@ fn exceeds_with_ends(instance: &Instance, activity: &Activity) -> bool
     count_with_ends(instance, activity) > limit
 }
 
-/// Adds an event where it is new, or finds no memory for it.
+/// Adds an event, unless it exists. The only fault is `Memory`.
 fn add_event(instance: &mut Instance, event: EventId) -> Result<(), FaultKind>
     ensures ok { OnOk result (instance.new ≡ with_event instance.old event) }
     ensures memory { IfErr result (λ found. found ≡ fault.Memory) }
@@ -59,7 +59,7 @@ fn add_event(instance: &mut Instance, event: EventId) -> Result<(), FaultKind>
     }
 }
 
-/// Takes one more activity of a new number, with those of its ends that are new, or answers the first fault:
+/// Adds an activity of a new number, with those of its ends that are new. Faults in order:
 /// `TooManyEvents`, `TooManyActivities`, `Memory`.
 fn add_with_ends(instance: &mut Instance, activity: &Activity) -> Result<(), FaultKind>
     requires { activity_of instance.old activity.now.id ≡ None }
@@ -80,8 +80,8 @@ fn add_with_ends(instance: &mut Instance, activity: &Activity) -> Result<(), Fau
     }
 }
 
-/// Takes one more activity, or answers the first fault: `DuplicateActivity`, `TooManyEvents`, `TooManyActivities`,
-/// `Memory`. Where both ends are known, each is looked up once.
+/// Adds an activity. Faults in order: `DuplicateActivity`, `TooManyEvents`, `TooManyActivities`,
+/// `Memory`. If both ends exist, each is looked up once.
 fn add_activity(instance: &mut Instance, activity: &Activity) -> Result<(), FaultKind>
     requires { length instance.old.events ≤ limits.max_events instance.old.period }
     ensures ok { OnOk result (activity_taken instance.old activity.now ≡ Ok instance.new) }
@@ -90,7 +90,7 @@ fn add_activity(instance: &mut Instance, activity: &Activity) -> Result<(), Faul
     match instance.apply(&Edit::AddActivity(*activity)) {
         Ok(()) => Ok(()),
         Err(Refusal::Memory) => Err(FaultKind::Memory),
-        // A number that is there is told before an end that is missing.
+        // A number that exists is refused before a missing end, so this one is new.
         Err(Refusal::NoEvent(_)) => add_with_ends(instance, activity),
         Err(Refusal::TooManyActivities) => Err(FaultKind::TooManyActivities),
         Err(_) => Err(FaultKind::DuplicateActivity),
@@ -108,7 +108,7 @@ fn activity_of_row(fields: &ByteRecord) -> Result<Activity, FaultKind>
     }
 }
 
-/// Takes the activity of a row.
+/// Adds the activity of a row.
 fn take_activity(instance: &mut Instance, fields: &ByteRecord) -> Result<(), FaultKind>
     requires { length instance.old.events ≤ limits.max_events instance.old.period }
     ensures ok { OnOk result (row_taken activity_faults_after with_activity_row instance.old
@@ -122,7 +122,8 @@ fn take_activity(instance: &mut Instance, fields: &ByteRecord) -> Result<(), Fau
     add_activity(instance, &activity)
 }
 
-/// Gathers an activity, and adds those of its ends that are new. Says whether there was room for all three.
+/// Collects an activity, and adds those of its ends that are new. Returns whether there was memory
+/// for all three.
 fn gather(instance: &mut Instance, activities: &mut Vec<Activity>, activity: Activity) -> bool
     ensures ends { result ≡ true → instance.new ≡ with_ends instance.old activity }
     ensures gathered { result ≡ true → activities.new.items ≡ activities.old.items ++ activity ∷ [] }
@@ -136,10 +137,13 @@ fn gather(instance: &mut Instance, activities: &mut Vec<Activity>, activity: Act
     activities.push(activity).is_ok()
 }
 
-/// The instance that a file of activities stands for, or the fault of the first row that has one by itself or is one
-/// too many, where the rows before it have none. Nothing where a row falls otherwise by those before it, or where there
-/// is no room to store all of them at once.
-// What it holds is not on the stack while the other way is gone.
+/// The instance of a file of activities, or the fault of the first row that is faulty by itself or
+/// surplus, if those before it are valid. None if a row is faulty because of those before it, or
+/// memory for all of them at once runs out.
+///
+/// It costs less than one row after another: docs/HISTORY.md, "Activities stored at once".
+// Not inlined, so that its locals are not on the stack while the other reader runs: docs/HISTORY.md
+// has the stack with both in one frame under "Activities stored at once".
 #[inline(never)]
 fn read_at_once(alloc: Global, period: Period, bytes: &[u8]) -> Option<Result<Instance, ReadFault>>
     ensures ok { IfSome result (λ told. IfOk told
@@ -159,7 +163,7 @@ fn read_at_once(alloc: Global, period: Period, bytes: &[u8]) -> Option<Result<In
                 }
             }
             _ => {
-                // The rows before this one are stored, and it is taken after them.
+                // The rows before this one are stored first, because its fault may depend on them.
                 let mut before = instance.with_activities(activities).ok()??;
                 let kind = take_activity(&mut before, records.record()).err()?;
                 return Some(Err(records.fault(kind)));
@@ -169,7 +173,7 @@ fn read_at_once(alloc: Global, period: Period, bytes: &[u8]) -> Option<Result<In
     Some(Ok(instance.with_activities(activities).ok()??))
 }
 
-/// The same row by row, or the fault of its first faulty row.
+/// The same row by row, or the fault of the first faulty row.
 #[inline(never)]
 fn read_one_by_one(alloc: Global, period: Period, bytes: &[u8]) -> Result<Instance, ReadFault>
     ensures ok { IfOk result (λ instance. activities_read period bytes.now ≡ Ok instance) }
@@ -185,13 +189,13 @@ fn read_one_by_one(alloc: Global, period: Period, bytes: &[u8]) -> Result<Instan
     Ok(instance)
 }
 
-/// The instance that a file of activities stands for, or the fault of its first faulty row.
+/// The instance of a file of activities, or the fault of its first faulty row.
 ///
 /// The events are the ends of the activities, and none has a window. A row has the number of an
-/// activity, its ends, its lower and its upper bound, and its weight. Of the faults of a row the first
-/// is named: `FieldCount`, `BadNumber`, `FractionalWeight` or `OutOfRange` from left to right,
-/// `Crossed`, `DuplicateActivity`, `TooManyEvents`, `TooManyActivities`. `Memory` is answered at the
-/// number of the records taken so far and one more.
+/// activity, its ends, its lower and its upper bound, and its weight. The first fault of a row is
+/// reported: `FieldCount`, `BadNumber`, `FractionalWeight` or `OutOfRange` from left to right,
+/// `Crossed`, `DuplicateActivity`, `TooManyEvents`, `TooManyActivities`. `Memory` has the number of
+/// records read so far plus one.
 pub fn read_activities(alloc: Global, period: Period, bytes: &[u8]) -> Result<Instance, ReadFault>
     ensures ok { IfOk result (λ instance. activities_read period bytes.now ≡ Ok instance) }
     ensures fault { IfErr result (IsReadFault bytes.now (activities_read period bytes.now)) }

@@ -1,4 +1,4 @@
-//! What reading says of a faulty file.
+//! Faults of files.
 
 use thiserror::Error;
 

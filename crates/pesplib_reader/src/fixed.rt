@@ -1,4 +1,4 @@
-//! Fixed times of events, in a file.
+//! Files of fixed times.
 
 ghost use Rattle.std.specs.Prelude.{◌≡◌, Ok, IfOk, IfErr, OnOk, OnErr};
 ghost use Rattle.pesp_tension.specs.Timetables.{Times};
@@ -15,8 +15,8 @@ use pesp_instance::{Edit, Instance};
 use pesp_tension::Timetable;
 use std::alloc::Global;
 
-/// Gives one more event its time modulo the period, or answers the first fault: `DuplicateEvent`,
-/// `NoEvent`, `Memory`.
+/// Adds the time of an event, modulo the period. Faults in order: `DuplicateEvent`, `NoEvent`,
+/// `Memory`.
 fn add_fixed(
     instance: &Instance,
     times: &mut Timetable,
@@ -38,7 +38,7 @@ fn add_fixed(
     }
 }
 
-/// Takes the event and the time of a row.
+/// Adds the event and the time of a row.
 fn take_fixed(
     instance: &Instance,
     times: &mut Timetable,
@@ -57,7 +57,7 @@ fn take_fixed(
     add_fixed(instance, times, event, time)
 }
 
-/// The fixed times that a file stands for, of events of an instance.
+/// The fixed times of a file, for events of an instance.
 fn fixed_times(alloc: Global, instance: &Instance, bytes: &[u8]) -> Result<Timetable, ReadFault>
     ensures ok { IfOk result (λ times. fixed_read instance.now bytes.now ≡ Ok times) }
     ensures fixable { IfOk result (λ times. AreFixable instance.now times.entries) }
@@ -83,13 +83,13 @@ fn fix_all(instance: &mut Instance, times: &Timetable)
     }
 }
 
-/// Fixes the times of a file of fixed times, or answers the fault of its first faulty row.
+/// Fixes the times of a file of fixed times, or returns the fault of its first faulty row.
 ///
-/// An earlier window of an event is replaced. The whole file is read before the first event is
-/// fixed, and after a fault the instance is as it was. A row has an event and a time, which is taken
-/// modulo the period. Of the faults of a row the first is named: `FieldCount`, `BadNumber` or
-/// `OutOfRange` from left to right, `DuplicateEvent`, `NoEvent`. `Memory` is answered at the number of
-/// the records taken so far and one more.
+/// A fixed time replaces any window of its event. The whole file is read before the first event is
+/// fixed, so a fault changes nothing. A row has an event and a time, which counts modulo the
+/// period. The first fault of a row is reported: `FieldCount`, `BadNumber` or `OutOfRange` from
+/// left to right, `DuplicateEvent`, `NoEvent`. `Memory` has the number of records read so far plus
+/// one.
 pub fn read_fixed(alloc: Global, instance: &mut Instance, bytes: &[u8]) -> Result<(), ReadFault>
     ensures ok { OnOk result ((m : Times) × (fixed_read instance.old bytes.now ≡ Ok m)
         × (instance.new ≡ with_fixed instance.old m)) }

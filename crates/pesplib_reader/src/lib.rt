@@ -1,4 +1,4 @@
-//! Reading of files of activities, of times and of fixed times.
+//! Readers of files of activities, of times and of fixed times.
 #![tactic(auto)]
 
 mod activities;

@@ -19,25 +19,27 @@ use std::alloc::Global;
 /// The records of a file, one at a time.
 #[derive(Drop)]
 pub(crate) struct Records<'a> {
-    // After the record that was read last.
+    // Positioned after the last record that was read.
     reader: Reader<&'a [u8]>,
-    // The record that was read last, without an empty field at its end.
+    // The last record that was read, without an empty last field.
     last: ByteRecord,
-    // How many records were read.
+    // The number of records read.
     taken: u64,
     // Whether one of them was neither blank nor a comment.
     is_begun: bool,
 }
 
-/// A semicolon where one stands anywhere, and else a comma.
+/// A semicolon if the text has one anywhere, else a comma.
+///
+/// Even one in a comment decides, because rows are not known before the separator is.
 fn separator(bytes: &[u8]) -> u8
     ensures { result ≡ file.separator_of bytes.now }
 {
     if bytes.contains(&b';') { b';' } else { b',' }
 }
 
-/// A reader at the first record, with the file's separator and `csv`'s defaults otherwise, but that it
-/// takes records of any lengths and no header row.
+/// A reader at the first record, with the file's separator. Otherwise it has the defaults of `csv`,
+/// except that records may have any length, and that there is no header row.
 fn reader(alloc: Global, bytes: &[u8]) -> Reader<&[u8]>
     ensures config { reader_config result ≡ file.with_separator (file.separator_of bytes.now) }
     ensures flexible { is_flexible result ≡ true }
@@ -54,7 +56,7 @@ fn reader(alloc: Global, bytes: &[u8]) -> Reader<&[u8]>
         .from_reader(alloc, bytes)
 }
 
-/// Reads the next record, and says whether there was one.
+/// Reads the next record, and returns whether there was one.
 fn read_record(reader: &mut Reader<&[u8]>, fields: &mut ByteRecord) -> Result<bool, Error>
     requires { IsBetween reader.old }
     ensures none { IfOk result (λ found. found ≡ false → left_of reader.old ≡ []) }
@@ -68,7 +70,7 @@ fn read_record(reader: &mut Reader<&[u8]>, fields: &mut ByteRecord) -> Result<bo
     reader.read_byte_record(fields)
 }
 
-/// The field at a place from 0, without blanks around it; nothing where there is none.
+/// The field at an index, without blanks around it. It is empty if there is none.
 fn field(fields: &ByteRecord, place: usize) -> &[u8]
     ensures { result.now ≡ slice_index_or (trimmed_fields fields.now) place [] }
 {
@@ -88,7 +90,7 @@ fn drop_empty_end(fields: &mut ByteRecord)
     }
 }
 
-/// The first byte of the first field, and 0 where there is none.
+/// The first byte of the first field, or 0 if there is none.
 fn first_byte(fields: &ByteRecord) -> u8
     ensures { result ≡ file.first_byte (trimmed_fields fields.now) }
 {
@@ -158,14 +160,14 @@ impl<'a> Records<'a> {
         }
     }
 
-    /// The record that was read last.
+    /// The last record that was read.
     pub(crate) fn record(&self) -> &ByteRecord
         ensures { result.now ≡ self.now.last }
     {
         &self.last
     }
 
-    /// A fault of the record that was read last.
+    /// A fault of the last record that was read.
     pub(crate) fn fault(&self, kind: FaultKind) -> ReadFault
         ensures { result ≡ record { place = self.now.taken; kind = kind } }
     {
@@ -175,7 +177,7 @@ impl<'a> Records<'a> {
         }
     }
 
-    /// Reads the next record, and says whether there was one.
+    /// Reads the next record, and returns whether there was one.
     fn read(&mut self) -> Result<bool, ReadFault>
         requires { IsReading self.old }
         ensures none { IfOk result (λ found. found ≡ false → left_of self.old.reader ≡ []) }
@@ -195,6 +197,8 @@ impl<'a> Records<'a> {
                 Ok(true)
             }
             Ok(false) => Ok(false),
+            // Bytes in memory give no device error. No contract says so, and any error counts as
+            // out of memory.
             Err(_) => Err(ReadFault {
                 place: self.taken + 1,
                 kind: FaultKind::Memory,
@@ -202,7 +206,8 @@ impl<'a> Records<'a> {
         }
     }
 
-    /// Whether the record that was read last is a row: neither blank, nor a comment, nor the header.
+    /// Whether the last record that was read is a row: neither blank, nor a comment, nor the
+    /// header.
     fn is_row(&mut self) -> bool
         ensures row { result ≡ is_row self.old.is_begun (trimmed_fields self.old.last) }
         ensures changes { self.new ≡ record self.old {
@@ -215,7 +220,7 @@ impl<'a> Records<'a> {
         is_row
     }
 
-    /// Reads on to the next row, and says whether there was one.
+    /// Reads on to the next row, and returns whether there was one.
     pub(crate) fn next(&mut self) -> Result<bool, ReadFault>
         requires { IsReading self.old }
         ensures found { IfOk result (λ found. found ≡ true → IsNextRow self.old self.new) }

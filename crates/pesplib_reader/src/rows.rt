@@ -1,6 +1,6 @@
 //! The rows of activity and timetable files, and the checks that a row has by itself.
 //!
-//! How a file is cut into rows and fields does not matter here.
+//! Here it does not matter how a file is cut into rows and fields.
 
 ghost use Rattle.std.specs.Prelude.{◌≡◌, ◌≤◌, ◌≤ℤ◌, ◌<ℤ◌, IfOk, IfErr, None, Some, pos, neg_ℤ};
 ghost use Rattle.std.specs.Char.{is_ascii_digit};
@@ -16,7 +16,7 @@ use pesp_base::{
     NumberFault, Span, Weight, number_between,
 };
 
-/// The greatest time that a file may hold; the least is as far below 0.
+/// The greatest time in a file, as docs/FORMATS.md has it. The least is its negative.
 pub(crate) const GREATEST_TIME: u32 = 1_000_000_000;
 
 /// The fields of an activity row.
@@ -37,7 +37,7 @@ pub(crate) struct TimeRow<'a> {
     pub time: &'a [u8],
 }
 
-/// The number of a field, where it is within the limits.
+/// The number of a field, if it is within the limits.
 fn number_field(field: u8, text: &[u8], low: i64, high: i64) -> Result<i64, FaultKind>
     requires low { neg_ℤ (pos number_cap) <ℤ low }
     requires high { high <ℤ pos number_cap }
@@ -53,7 +53,7 @@ fn number_field(field: u8, text: &[u8], low: i64, high: i64) -> Result<i64, Faul
     }
 }
 
-/// The number of a field, where it is from 0 to a limit.
+/// The number of a field, if it is from 0 to a limit.
 fn natural_field(field: u8, text: &[u8], greatest: u32) -> Result<u32, FaultKind>
     ensures no_fault { IfOk result (λ number.
         number_fault field (pos 0) (pos greatest) text.now ≡ None) }

@@ -1,4 +1,4 @@
-//! Times of events, in a file.
+//! Files of times.
 
 ghost use Rattle.std.specs.Prelude.{◌≡◌, ◌<◌, Ok, IfOk, IfErr, OnOk};
 ghost use Rattle.pesp_base.specs.Tensions.{residue};
@@ -21,7 +21,7 @@ pub(crate) fn remainder(time: i64, period: Period) -> u16
     time.rem_euclid(i64::from(period.get())) as u16
 }
 
-/// Gives one more event its time modulo the period, or answers the first fault: `DuplicateEvent`,
+/// Adds the time of an event, modulo the period. Faults in order: `DuplicateEvent`,
 /// `TooManyEvents`, `Memory`.
 fn add_time(timetable: &mut Timetable, event: EventId, time: i64) -> Result<(), FaultKind>
     ensures ok { OnOk result (event_taken timetable.old event time ≡ Ok timetable.new) }
@@ -38,7 +38,7 @@ fn add_time(timetable: &mut Timetable, event: EventId, time: i64) -> Result<(), 
     }
 }
 
-/// Takes the event and the time of a row.
+/// Adds the event and the time of a row.
 fn take_time(timetable: &mut Timetable, fields: &ByteRecord) -> Result<(), FaultKind>
     ensures ok { OnOk result (row_taken time_faults_after with_time_row timetable.old
         (trimmed_fields fields.now) ≡ Ok timetable.new) }
@@ -53,11 +53,11 @@ fn take_time(timetable: &mut Timetable, fields: &ByteRecord) -> Result<(), Fault
     add_time(timetable, event, time)
 }
 
-/// The timetable that a file of times stands for, or the fault of its first faulty row.
+/// The timetable of a file of times, or the fault of its first faulty row.
 ///
-/// A row has an event and a time, which is taken modulo the period. Of the faults of a row the first
-/// is named: `FieldCount`, `BadNumber` or `OutOfRange` from left to right, `DuplicateEvent`,
-/// `TooManyEvents`. `Memory` is answered at the number of the records taken so far and one more.
+/// A row has an event and a time, which counts modulo the period. The first fault of a row is
+/// reported: `FieldCount`, `BadNumber` or `OutOfRange` from left to right, `DuplicateEvent`,
+/// `TooManyEvents`. `Memory` has the number of records read so far plus one.
 pub fn read_times(alloc: Global, period: Period, bytes: &[u8]) -> Result<Timetable, ReadFault>
     ensures ok { IfOk result (λ timetable. times_read period bytes.now ≡ Ok timetable) }
     ensures fault { IfErr result (IsReadFault bytes.now (times_read period bytes.now)) }

@@ -1,4 +1,4 @@
-//! Spaces and tabs, which mean nothing around a field.
+//! Spaces and tabs, which have no meaning around a field.
 
 ghost use Rattle.std.specs.Prelude.{◌≡◌};
 ghost use Rattle.pesplib_reader.specs.Records as records;

@@ -66,7 +66,7 @@ fn put_times(text: &mut Vec<u8>, timetable: &Timetable) -> Result<(), AllocError
 /// The text of the activities, a row each by rising number: number, from-event, to-event, lower bound,
 /// upper bound and weight.
 ///
-/// Where each event is an end of an activity, the text stands for the instance without its windows.
+/// If each event is an end of an activity, reading the text gives the instance without its windows.
 pub fn write_activities(alloc: Global, instance: &Instance) -> Result<Vec<u8>, Memory>
     ensures text { IfOk result (λ text. text.items ≡ activities_text instance.now) }
     ensures stands { IfOk result (λ text. AreUsed instance.now
@@ -92,13 +92,13 @@ pub fn write_fixed(alloc: Global, instance: &Instance) -> Result<Vec<u8>, Memory
 
 /// The text of a timetable, a row for each event that has a time by rising number: event and time.
 ///
-/// The text stands for the timetable.
+/// Reading the text gives the timetable.
 pub fn write_times(alloc: Global, timetable: &Timetable) -> Result<Vec<u8>, Memory>
     ensures text { IfOk result (λ text. text.items ≡ times_text timetable.now) }
     ensures stands { IfOk result (λ text.
         times_read timetable.now.period text.items ≡ Ok timetable.now) }
 {
-    // Known of the period by its type; the law of the text takes it as a fact.
+    // The type's invariant, as a fact for the law of the text.
     prove!(timetable.period().get() <= GREATEST_PERIOD);
     let mut text = Vec::new(alloc);
     match put_times(&mut text, timetable) {

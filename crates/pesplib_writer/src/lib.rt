@@ -1,6 +1,6 @@
 //! The canonical texts of instances and timetables, and the script that builds an instance.
 //!
-//! Each call takes memory in proportion to the text that it writes, and nothing else.
+//! Each call allocates in proportion to its text, and nothing else.
 #![tactic(auto)]
 
 mod fields;

@@ -14,7 +14,7 @@ use pesp_base::{Activity, EventId, Memory, Period, Window};
 use pesp_instance::Instance;
 use std::alloc::{AllocError, Global};
 
-/// How many events have a window.
+/// The number of events with a window.
 fn window_count(instance: &Instance) -> usize
     ensures count { result ≡ length (filter_map own_edit instance.now.events) }
     ensures few { result ≤ max_events instance.now.period }
@@ -28,7 +28,7 @@ fn window_count(instance: &Instance) -> usize
     count
 }
 
-/// How many lines follow the first one.
+/// The number of lines after the first one.
 fn line_count(instance: &Instance) -> usize
     ensures count { result ≡ length (script_lines instance.now) }
     ensures network { IsNetwork instance.now }
@@ -36,7 +36,7 @@ fn line_count(instance: &Instance) -> usize
     instance.event_count() + window_count(instance) + instance.activity_count()
 }
 
-/// The first line, a comment: the period, and how many lines follow.
+/// The first line, a comment: the period, and the number of lines after it.
 fn put_head(text: &mut Vec<u8>, period: Period, lines: usize) -> Result<(), AllocError>
     ensures { OnOk result (text.new.items
         ≡ text.old.items
@@ -66,7 +66,7 @@ fn put_fix(text: &mut Vec<u8>, event: EventId, time: u16) -> Result<(), AllocErr
     put_before(text, u64::from(time), b"\n")
 }
 
-/// The line that gives an event a window that is not one of one residue alone.
+/// The line that gives an event a window of any length but one.
 fn put_wide(text: &mut Vec<u8>, event: EventId, window: Window) -> Result<(), AllocError>
     ensures { OnOk result (text.new.items
         ≡ text.old.items ++ (edit_line (SetWindow event window.first window.length) ++ 10 ∷ [])) }
@@ -76,7 +76,8 @@ fn put_wide(text: &mut Vec<u8>, event: EventId, window: Window) -> Result<(), Al
     put_before(text, u64::from(window.length()), b"\n")
 }
 
-/// The line that gives an event a window.
+/// The line that gives an event a window. One residue is written as `fix`, so scripts from before
+/// windows do not change.
 fn put_window(text: &mut Vec<u8>, event: EventId, window: Window) -> Result<(), AllocError>
     ensures { OnOk result (text.new.items
         ≡ text.old.items ++ (edit_line (window_edit event window) ++ 10 ∷ [])) }
@@ -129,8 +130,8 @@ fn put_script(text: &mut Vec<u8>, instance: &Instance) -> Result<(), AllocError>
     put_activities(text, instance)
 }
 
-/// The script that builds the instance from the one of its period without events: a comment with the
-/// period and the number of the lines after it, and then the edits, a line each.
+/// The script that builds the instance from the empty one of its period: a comment with the period
+/// and the number of lines after it, then the edits, a line each.
 ///
 /// The events come first, then their windows, then the activities, each by rising number.
 pub fn dump(alloc: Global, instance: &Instance) -> Result<Vec<u8>, Memory>

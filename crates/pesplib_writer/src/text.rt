@@ -1,6 +1,6 @@
-//! Texts and numbers, put after what is written already; numbers are written by `itoa`.
+//! Appends texts and numbers, which `itoa` formats.
 //!
-//! A call finds no memory only where the text has no room, and a text keeps the room that it has.
+//! A call runs out of memory only if the text has no room, and a text keeps the room that it has.
 
 ghost use Rattle.std.specs.Prelude.{◌≡◌, ◌≤◌, ◌++◌, [], ◌∷◌, OnOk, OnErr, decimal, vec_capacity};
 ghost use Rattle.std.specs.Fmt.{signed_decimal};
@@ -9,7 +9,7 @@ ghost use Rattle.pesplib_writer.specs.Puts.{HasNoRoom, IsPutInPart};
 use itoa::Buffer;
 use std::alloc::AllocError;
 
-/// Puts bytes after a text. Where memory is wanting the text is as it was.
+/// Appends bytes. If memory runs out, the text does not change.
 pub fn put(text: &mut Vec<u8>, bytes: &[u8]) -> Result<(), AllocError>
     ensures text { OnOk result (text.new.items ≡ text.old.items ++ bytes.now) }
     ensures unchanged { OnErr result (text.new.items ≡ text.old.items) }
@@ -19,7 +19,7 @@ pub fn put(text: &mut Vec<u8>, bytes: &[u8]) -> Result<(), AllocError>
     text.extend_from_slice(bytes)
 }
 
-/// Puts a number in digits, without zeros in front. Where memory is wanting the text is as it was.
+/// Appends the digits of a number. If memory runs out, the text does not change.
 pub fn put_number(text: &mut Vec<u8>, number: u64) -> Result<(), AllocError>
     ensures text { OnOk result (text.new.items ≡ text.old.items ++ decimal number) }
     ensures unchanged { OnErr result (text.new.items ≡ text.old.items) }
@@ -31,8 +31,8 @@ pub fn put_number(text: &mut Vec<u8>, number: u64) -> Result<(), AllocError>
     put(text, digits.as_bytes())
 }
 
-/// Puts a number in digits, with `-` in front where it is below 0. Where memory is wanting the text is
-/// as it was.
+/// Appends the digits of a number, after `-` if it is below 0. If memory runs out, the text does
+/// not change.
 pub fn put_signed(text: &mut Vec<u8>, number: i32) -> Result<(), AllocError>
     ensures text { OnOk result (text.new.items ≡ text.old.items ++ signed_decimal number) }
     ensures unchanged { OnErr result (text.new.items ≡ text.old.items) }
@@ -44,7 +44,7 @@ pub fn put_signed(text: &mut Vec<u8>, number: i32) -> Result<(), AllocError>
     put(text, signed.as_bytes())
 }
 
-/// Puts a number, and a text after it.
+/// Appends a number, and a text after it.
 pub(crate) fn put_before(text: &mut Vec<u8>, number: u64, ending: &[u8]) -> Result<(), AllocError>
     ensures { OnOk result (text.new.items ≡ text.old.items ++ (decimal number ++ ending.now)) }
 {
@@ -52,10 +52,9 @@ pub(crate) fn put_before(text: &mut Vec<u8>, number: u64, ending: &[u8]) -> Resu
     put(text, ending)
 }
 
-/// Puts a number between two texts.
+/// Appends a number between two texts.
 ///
-/// Where memory is wanting the text is as it was, or has the first text after it, or that and the
-/// number.
+/// If memory runs out, none of the three may be appended, or the first one, or that and the number.
 pub fn put_between(
     text: &mut Vec<u8>,
     before: &[u8],

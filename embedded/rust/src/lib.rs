@@ -5,9 +5,16 @@
 mod raw;
 
 use raw::{Found, Raw, Told};
-use raw::{pesp_ask, pesp_close, pesp_cost, pesp_domain, pesp_events, pesp_open, pesp_search, pesp_times, pesp_try_move};
+use raw::{pesp_ask, pesp_close, pesp_cost, pesp_domain, pesp_events, pesp_open, pesp_search, pesp_times, pesp_try_move, pesp_version};
 use std::fmt;
 use std::ptr;
+
+/// The version of the library: 1,000,000 for each major, 1,000 for each minor number, and the patch. It is that of
+/// the last release, also with unreleased changes.
+pub fn version() -> u32 {
+    // It reads and writes nothing.
+    unsafe { pesp_version() }
+}
 
 /// The greatest length of the reply to a change, so that no change is requested twice.
 const LEAST_ROOM: usize = 128;
@@ -231,6 +238,12 @@ mod tests {
         fixed: b"",
         times: b"1; 0\n",
     };
+
+    #[test]
+    fn the_library_is_of_the_version_of_this_crate() {
+        let numbers = env!("CARGO_PKG_VERSION").split(['.', '+']).take(3).map(|number| number.parse::<u32>().expect("a number"));
+        assert_eq!(version(), numbers.fold(0, |all, number| 1_000 * all + number));
+    }
 
     #[test]
     fn a_session_answers_line_by_line() -> Result<(), Fault> {

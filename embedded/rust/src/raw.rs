@@ -43,6 +43,7 @@ extern "C" {
         session: *mut Raw,
         told: *mut Told,
     );
+    pub fn pesp_version() -> u32;
     pub fn pesp_close(session: *mut Raw);
     pub fn pesp_ask(session: *mut Raw, line: *const u8, line_length: usize, out: *mut u8, out_length: usize, told: *mut Told);
     pub fn pesp_cost(session: *mut Raw, cost: *mut u64, told: *mut Told);

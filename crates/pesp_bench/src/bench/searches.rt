@@ -1,4 +1,4 @@
-//! The optimum: found, kept, and taken as the working timetable.
+//! The optimum: searched for, kept, and adopted as the working timetable.
 
 ghost use Rattle.std.specs.Prelude.{◌≡◌, ◌⊎◌, IsErr, IfOk, IfErr, IfSome, IsOkAnd, IsSomeAnd, OnOk, OnErr, Some, None};
 ghost use Rattle.pesp_base.specs.declared.refusal.Refusal.TheVariants as no;
@@ -22,7 +22,7 @@ use pesp_search::{Answer, Best, Known, Searches, known_after};
 use pesp_tension::Timetable;
 use std::alloc::Global;
 
-/// A timetable once more.
+/// A copy of a timetable.
 fn copy_of(alloc: Global, times: &Timetable) -> Result<Timetable, Memory>
     ensures copy { IfOk result (λ copy. copy ≡ times.now) }
     ensures rising { IfOk result (λ copy. IsStrictlyIncreasing (timed_events copy)) }
@@ -36,7 +36,8 @@ fn copy_of(alloc: Global, times: &Timetable) -> Result<Timetable, Memory>
     Ok(copy)
 }
 
-/// Makes the timetable that a search stopped with the candidate, where there is memory to copy it.
+/// Makes a copy of a stopped search's timetable the candidate. If memory runs out, the earlier
+/// candidate remains, which is no error: each use checks it.
 fn keep_found(alloc: Global, found: &Option<Best>, candidate: &mut Option<Timetable>)
     ensures { (candidate.new ≡ candidate.old)
         ⊎ IsSomeAnd found.now (λ best. candidate.new ≡ Some best.times) }
@@ -48,7 +49,7 @@ fn keep_found(alloc: Global, found: &Option<Best>, candidate: &mut Option<Timeta
     }
 }
 
-/// What a search found that came to its end.
+/// The answer of a search that ended, from the best timetable that it found.
 fn answer_of(best: Option<Best>) -> Answer
     ensures { (I : Network) → IsEnd I best → IsAnswer I result }
 {
@@ -58,7 +59,9 @@ fn answer_of(best: Option<Best>) -> Answer
     }
 }
 
-/// The optimum's cost and timetable, or the refusal where there is none.
+/// A copy of the optimum with its cost.
+///
+/// Refusals: 12 if no timetable meets everything; otherwise 10.
 fn optimum_of(alloc: Global, answer: &Answer) -> Result<Best, Refusal>
     ensures ok { IfOk result (λ best. answer.now ≡ answers.Optimal best.cost best.times) }
     ensures rising { IfOk result (λ best. IsStrictlyIncreasing (timed_events best.times)) }
@@ -79,7 +82,13 @@ impl<K: Keeper> Bench<K> {
     ghost use Rattle.pesp_bench.specs.contracts.bench.Bench.{the_row};
     ghost use mathlib.Core.Option.{none};
 
-    /// Finds the optimum, where it is not known, or refusal 10.
+    /// Searches for the optimum to the end, unless it is known. [`Bench::known`] returns it
+    /// afterwards.
+    ///
+    /// A stopped search of the same network is resumed, and the candidate's cost bounds the search;
+    /// no clause says either.
+    ///
+    /// Refusal: 10, before the first node. The optimum is not known then.
     #[tactic(auto, using(pesp_search::proofs::Sizes::no_nodes))]
     pub fn find_optimum(&mut self, alloc: Global) -> Result<(), Refusal>
         ensures ok { OnOk result (IsSomeAnd self.new.known (IsAnswer self.old.instance)) }
@@ -103,7 +112,11 @@ impl<K: Keeper> Bench<K> {
         Ok(())
     }
 
-    /// The optimum, or out of memory: what [`Bench::find_optimum`] makes known, and a known one as it is. The working timetable stays.
+    /// The optimum, as [`Bench::find_optimum`] makes it known. The working timetable does not
+    /// change. The only error is out of memory, before the first node.
+    ///
+    /// docs/DECISIONS.md, "Workbench", says why it returns `Memory`, and why the clause `leaves`
+    /// specifies the state after the borrow.
     pub fn optimum(&mut self, alloc: Global) -> Result<&Answer, Memory>
         ensures* leaves { sem 𝓛 (follows_so (the_row K.row K.Keeper) (the_row K.row K.Keeper) self.entry.ghost_name none (λ _ _. ⊤) (λ after. IsLent self.old after (λ answer. answer.now) result)) }
         ensures ok { IfOk result (λ answer. IsAnswer self.old.instance answer.now) }
@@ -117,9 +130,23 @@ impl<K: Keeper> Bench<K> {
         Ok(self.known.as_ref().unwrap())
     }
 
-    /// Looks for the optimum by at most so many nodes, where it is not known, and tells how good that is which it comes to.
+    /// Searches for the optimum in at most `limit` nodes, unless it is known, and returns a lower
+    /// bound.
     ///
-    /// A search that stopped is gone on with, where the instance is as it was then. No timetable that meets everything costs less than the lower bound. Refusal 10 comes before the first node.
+    /// `Done` means that the optimum is known: [`Bench::known`] returns it, and the lower bound is
+    /// its cost, or 0 if no timetable meets everything. A known optimum needs no node. `Stopped`
+    /// comes after exactly `limit` nodes, with the best timetable found, if any. It costs at most
+    /// as much as any that meets everything and that the uncut tree reaches in `limit` nodes. It
+    /// may be the candidate, the timetable of a forgotten optimum or of an earlier stopped search,
+    /// if that still meets everything and the search found none at its cost or below. No timetable
+    /// that meets everything costs less than the lower bound.
+    ///
+    /// With a limit above 0 a search by cycles comes before the tree, or a local search if there
+    /// are too many cycles. Its budget is a number of units of work for each node (docs/FORMATS.md,
+    /// "Commands and replies"). A stopped search by cycles is resumed if its network is the same; a
+    /// search through the tree restarts. No clause says so.
+    ///
+    /// Refusal: 10, before the first node. The optimum is not known then.
     #[tactic(auto, using(pesp_search::proofs::Sizes::no_nodes))]
     pub fn seek_optimum(&mut self, alloc: Global, limit: u64) -> Result<Sought, Refusal>
         ensures ok { IfOk result (IsSought self.old.instance self.new limit) }
@@ -130,7 +157,7 @@ impl<K: Keeper> Bench<K> {
     {
         self.nodes = 0;
         if let Some(answer) = &self.known {
-            return Ok(Sought::done(answer));
+            return Ok(Sought::from_answer(answer));
         }
         let bound = candidate_cost(self.keeper.instance(), &self.candidate);
         let before = &mut self.searches;
@@ -154,23 +181,33 @@ impl<K: Keeper> Bench<K> {
             });
         }
         let answer = answer_of(best);
-        let sought = Sought::done(&answer);
+        let sought = Sought::from_answer(&answer);
         self.known = Some(answer);
         self.candidate = None;
         Ok(sought)
     }
 
-    /// Whether the next call of [`Bench::seek_optimum`] goes on with the last one, where that stopped, or begins anew.
+    /// Whether the next call of [`Bench::seek_optimum`] resumes the last one, if that stopped,
+    /// instead of restarting. A call with limit 0 does not change it. It has no clause: nothing
+    /// depends on it.
     pub fn goes_on(&self) -> bool {
         self.searches.goes_on()
     }
 
-    /// Whether the last call of [`Bench::price`], where it stopped, is gone on with.
+    /// Whether the next call of [`Bench::price`] with the same trial resumes the last one, if that
+    /// stopped. It has no clause: nothing depends on it.
     pub fn price_goes_on(&self) -> bool {
         self.prices.goes_on()
     }
 
-    /// What [`Bench::seek_optimum`] comes to that begins anew, without the bound: how far other searches have come does not matter.
+    /// Searches for the optimum in at most `limit` nodes, unless it is known, from the start.
+    ///
+    /// The attempt is as in [`Bench::seek_optimum`], also with the candidate, but without the lower
+    /// bound. The call resumes no stopped search and keeps none: those of `seek_optimum` remain. So
+    /// earlier searches affect the result only through a known optimum and the candidate. No clause
+    /// says so (docs/PROMISES.md, "Not proved").
+    ///
+    /// Refusal: 10, before the first node. The optimum is not known then.
     pub fn try_optimum(&mut self, alloc: Global, limit: u64) -> Result<Attempt, Refusal>
         ensures ok { IfOk result (IsAttempt self.new limit) }
         ensures searched { IsSearched self.old self.new }
@@ -178,16 +215,26 @@ impl<K: Keeper> Bench<K> {
         ensures refused { IfErr result (λ refusal. refusal ≡ no.Memory) }
         ensures unsearched { OnErr result (IsUnsearched self.old self.new) }
     {
+        // A resumed search would make the reply to `try` depend on earlier ones (docs/DECISIONS.md,
+        // "A search by cycles").
         let kept = std::mem::replace(&mut self.searches, Searches::new(alloc));
         let sought = self.seek_optimum(alloc, limit);
         drop(std::mem::replace(&mut self.searches, kept));
         Ok(sought?.attempt)
     }
 
-    /// What a search for the optimum comes to under a restriction that is tried and not made, by at most so many nodes.
+    /// Searches for the optimum under one more restriction, in at most `limit` nodes, and returns
+    /// what is known then, with the number of nodes. Only the count of pushes changes in the state.
     ///
-    /// It is that of the instance after `Fix` or `SetSpan`; at a time outside of the event's window no timetable meets
-    /// everything. A search that stopped is gone on with. Refusals: those of the edit; 10.
+    /// The searched instance is that after `Fix` for a time, or `SetSpan` for a span. At a time
+    /// outside the event's window, which `Fix` would replace, nothing is searched: no timetable
+    /// meets everything. The result is stopped or ended as in [`known_after`]; neither the known
+    /// optimum nor the candidate is used. The next call with the same trial, with no other price in
+    /// between, resumes a search that stopped, if [`Bench::price_goes_on`] returns true; no clause
+    /// says so.
+    ///
+    /// Refusals in order: those of the edit (2 and 4 for a time, 6 for a span); 10, before the
+    /// first node, but not at a time outside the window.
     pub fn price(
         &mut self,
         alloc: Global,
@@ -204,9 +251,11 @@ impl<K: Keeper> Bench<K> {
         search_trial(alloc, &mut self.keeper, &mut self.prices, trial, limit)
     }
 
-    /// Finds the optimum and makes it the working timetable.
+    /// Makes the optimum the working timetable, and searches for it unless it is known.
     ///
-    /// Refusals in order: 12 where no timetable meets everything; 10. The optimum may then have become known.
+    /// Refusals: 12 if no timetable meets everything; 10, before that is known, or for the copy of
+    /// a known optimum. A refused call leaves the working timetable, and may have made the optimum
+    /// known.
     pub fn adopt(&mut self, alloc: Global) -> Result<(), Refusal>
         ensures ok { OnOk result (IsAdopted self.new) }
         ensures searched { IsSearched self.old self.new }
@@ -215,6 +264,7 @@ impl<K: Keeper> Bench<K> {
     {
         self.find_optimum(alloc)?;
         let best = optimum_of(alloc, self.known.as_ref().unwrap())?;
+        // An optimum has a time for every event.
         self.kept = KeptCost {
             cost: best.cost,
             missing: 0,

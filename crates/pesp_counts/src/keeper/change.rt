@@ -1,4 +1,4 @@
-//! What an edit asks of rows and counts, found once.
+//! The change that an edit makes to rows and counts, found once.
 
 ghost use Rattle.std.specs.Prelude.{◌≡◌, ◌+◌, ◌*◌, ◌<◌, if◌then◌else◌, ℕ, [], ◌∷◌, None, Some, Ok, length};
 ghost use Rattle.pesp_instance.specs.Edited.{edited};
@@ -14,7 +14,7 @@ use pesp_counts_arcs::Links;
 use pesp_domains::{is_limited, is_looser, window_admits_anew};
 use pesp_instance::{Edit, Instance};
 
-/// The places of the events at which pairs may begin to come back.
+/// The places of the events at which the first pairs may return.
 #[derive(Drop)]
 pub enum Starts {
     Nowhere,
@@ -23,7 +23,7 @@ pub enum Starts {
 }
 
 impl Starts {
-    /// One after another.
+    /// The places in order.
     pub fn places(&self) -> &[usize]
         ensures { result.now ≡ places self.now }
     {
@@ -42,19 +42,19 @@ pub struct PlacedEvent {
     pub place: usize,
 }
 
-/// What an edit asks of rows and counts.
+/// The change that an edit makes to rows and counts.
 #[derive(Drop)]
 pub struct Change {
-    /// Nowhere, where the edit only tightens.
+    /// Nowhere, if the edit only tightens.
     pub loosened: Starts,
     /// The event whose window changes.
     pub limited: Option<PlacedEvent>,
-    /// The place of the activity whose ends are counted anew. They are left out while pairs come back.
+    /// The place of the activity whose ends are recounted. It is left out while pairs return.
     pub recounted: Option<usize>,
 }
 
 impl Change {
-    /// That of an edit of which rows and counts see nothing.
+    /// The change of an edit that affects neither rows nor counts.
     pub fn none() -> Change
         ensures { result ≡ record { loosened = starts.Nowhere; limited = None; recounted = None } }
     {
@@ -65,8 +65,8 @@ impl Change {
         }
     }
 
-    /// That of an edit, from the instance before it. What the edit adds has no place yet.
-    pub fn of(instance: &Instance, links: &Links, edit: &Edit) -> Change
+    /// The change of an edit, from the instance before it. What the edit adds has no place yet.
+    pub fn from_edit(instance: &Instance, links: &Links, edit: &Edit) -> Change
         requires { StandFor instance.now links.now }
         ensures { (J : Network) → edited instance.now edit.now ≡ Ok J
             → IsChange instance.now edit.now links.now result }
@@ -93,7 +93,7 @@ impl Change {
         }
     }
 
-    /// That of a window, of which is known whether it admits residues anew.
+    /// The change of a window, which `loosens` if it admits new residues.
     fn of_window(links: &Links, event: EventId, loosens: bool) -> Change
         ensures { (p : ℕ) → place_of (links.now).events event ≡ Some p → result ≡ record {
           loosened = if loosens then starts.At (p ∷ []) else starts.Nowhere;
@@ -111,7 +111,7 @@ impl Change {
         change
     }
 
-    /// That of an activity that changes, of which is known whether it joins pairs anew.
+    /// The change of an activity, which `loosens` if it admits new pairs.
     fn of_activity(links: &Links, id: ActivityId, loosens: bool) -> Change
         requires { (I : Network) × StandFor I links.now }
         ensures { (q : ℕ) → place_of (links.now).activities id ≡ Some q → result ≡ record {

@@ -1,4 +1,4 @@
-//! What is kept of an instance by place, and how it is made.
+//! Places, rows and counts of an instance, and how they are made.
 
 ghost use Rattle.std.specs.Prelude.{◌≡◌, ◌≤◌, ℕ, None, Some, Ok, [], length, IfOk, OnOk, OnErr, vec_capacity};
 ghost use Rattle.pesp_instance.specs.declared.edit.Edit.TheVariants as edits;
@@ -18,20 +18,21 @@ use pesp_domains::Pair;
 use pesp_instance::Instance;
 use std::alloc::{AllocError, Global};
 
-/// Places, rows and counts, and what an edit puts back.
+/// Places, rows and counts, and what an edit restores.
 #[derive(Drop)]
 pub struct Counted {
-    /// They stand for the instance.
+    /// The links represent the instance.
     pub links: Links,
     /// The rows are the domains under the pushed pairs, and nothing waits to be counted out.
     pub supports: Supports,
-    /// What the last edit put back, by place; forgotten at the next edit.
+    /// The pairs that the last edit restored, by place. Cleared at the next edit.
     pub back: Back,
-    /// The same by number, of the last edit that was accepted.
+    /// The same by number, for the last accepted edit.
     pub restored: Vec<Pair>,
 }
 
-/// Gives a new event a place and empty rows. Without the memory for it, all that stood for something does.
+/// Gives a new event a place and empty rows. If memory runs out, the links still represent the same
+/// instance.
 pub fn house_event(
     alloc: Global,
     counted: &mut Counted,
@@ -72,7 +73,8 @@ fn house_events(alloc: Global, instance: &Instance, counted: &mut Counted) -> Re
     ensures room { KeepsRoom counted.old counted.new }
     ensures restored { counted.new.restored.items ≡ counted.old.restored.items }
 {
-    // Room for all at once, and not for one after another.
+    // Reserves all rows at once, which saves moving them: docs/HISTORY.md, "Numbers looked up by a
+    // guess".
     counted.supports.make_rows(
         alloc,
         instance.event_count(),
@@ -85,8 +87,8 @@ fn house_events(alloc: Global, instance: &Instance, counted: &mut Counted) -> Re
     Ok(())
 }
 
-/// Gives a new activity a place, lists its ends, and makes counts for them. Without the memory for it, all that stood for
-/// something does.
+/// Gives a new activity a place, lists its ends, and makes their counts. If memory runs out, the
+/// links still represent the same instance.
 pub fn house_activity(
     period: Period,
     links: &mut Links,
@@ -126,7 +128,7 @@ fn house_activities(
     ensures period { supports.new.period ≡ supports.old.period }
     ensures rows { length supports.new.rows ≡ length supports.old.rows }
 {
-    // Counts for all at once, and not for one after another.
+    // Makes all counts at once, for the same reason as all rows.
     supports.make_counts(instance.activity_count().saturating_mul(2))?;
     for activity in instance.activities() {
         house_activity(instance.period(), links, supports, activity)?;
@@ -134,7 +136,8 @@ fn house_activities(
     Ok(())
 }
 
-/// Gives each event and each activity a place, with room in rows and counts, and for a push for each event.
+/// Gives each event and each activity a place, with rows and counts, and reserves room for a push
+/// of each event.
 pub fn house(
     alloc: Global,
     instance: &Instance,
@@ -150,7 +153,7 @@ pub fn house(
     ensures room { KeepsRoom counted.old counted.new }
     ensures restored { counted.new.restored.items ≡ counted.old.restored.items }
 {
-    // Room for all at once, and not for one after another.
+    // Reserves all places at once, for the same reason as all rows.
     let events = instance.event_count();
     counted.links.make_room(events, instance.activity_count())?;
     pushed.reserve(events)?;
@@ -158,7 +161,7 @@ pub fn house(
     house_activities(instance, &mut counted.links, &mut counted.supports)
 }
 
-/// Makes the rows the domains, whatever they were.
+/// Makes the rows the domains, whatever they are before.
 pub fn remake(instance: &Instance, links: &Links, supports: &mut Supports)
     requires { AreFor instance.now links.now supports.old }
     ensures settled { AreSettled instance.now [] links.now supports.new }

@@ -18,7 +18,8 @@ use pesp_counts_arcs::Links;
 use pesp_instance::{Edit, Instance};
 use std::alloc::{AllocError, Global};
 
-/// Follows an edit that adds an event. Without the memory for it, the rows are still the domains of the instance before.
+/// Follows an edit that adds an event. If memory runs out, the rows are still the domains of the
+/// earlier instance.
 pub fn add_event(
     alloc: Global,
     instance: &Instance,
@@ -45,7 +46,8 @@ pub fn add_event(
     Ok(())
 }
 
-/// Follows an edit that adds an activity. Without the memory for it, the rows are still the domains of the instance before.
+/// Follows an edit that adds an activity. If memory runs out, the rows are still the domains of the
+/// earlier instance.
 pub fn add_activity(
     instance: &Instance,
     counted: &mut Counted,
@@ -78,7 +80,7 @@ pub fn add_activity(
     Ok(())
 }
 
-/// Follows an edit that adds nothing, of which the change is given.
+/// Follows an edit that adds nothing, by its change.
 pub fn follow(instance: &Instance, counted: &mut Counted, edit: &Edit, change: &Change)
     requires adds { adds edit.now ≡ false }
     requires before { (I : Network) × IsBefore I instance.now edit.now counted.old
@@ -102,7 +104,7 @@ pub fn follow(instance: &Instance, counted: &mut Counted, edit: &Edit, change: &
     propagate(change, instance, links, supports, back);
 }
 
-/// Lets the links follow an edit that adds nothing.
+/// Updates the links after an edit that adds nothing.
 fn relink(period: Period, links: &mut Links, edit: &Edit)
     requires adds { adds edit.now ≡ false }
     requires before { (I : Network) × (J : Network) × (I.period ≡ period)
@@ -119,12 +121,12 @@ fn relink(period: Period, links: &mut Links, edit: &Edit)
     }
 }
 
-/// Takes an event or an activity away again that an edit added, but for which there was no memory.
+/// Undoes an edit that added an event or an activity for which memory ran out.
 pub fn take_back(instance: &mut Instance, edit: &Edit)
     requires { adds edit.now ≡ true }
     ensures { (I : Network) → IsNetwork I → edited I edit.now ≡ Ok instance.old → instance.new ≡ I }
 {
-    // Nothing stands on what was added, so none of these is refused.
+    // Nothing refers to what was added, so none of these is refused.
     let undoing = match *edit {
         Edit::AddEvent(event) => Edit::DropEvent(event),
         Edit::AddActivity(activity) => Edit::DropActivity(activity.id),

@@ -1,4 +1,4 @@
-//! Events of which one residue alone is left, or those of their windows.
+//! Limits events to one residue, or to those of their windows.
 
 ghost use Rattle.std.specs.Prelude.{◌≡◌, ◌<◌, ◌≤◌, ◌+◌, ◌*◌, ◌==◌, ◌&&◌, ℕ, [], Some, IsSome, drop, length, nat_lt};
 ghost use Rattle.pesp_instance.specs.Network.{IsNetwork, Network};
@@ -18,7 +18,7 @@ use pesp_counts_arcs::Links;
 use pesp_counts_supports::Supports;
 use pesp_instance::Instance;
 
-/// Takes all residues of an event but one out, and of the other pairs those that are left without a partner.
+/// Removes all residues of an event but one, and then all other pairs left without a partner.
 pub fn limit_event(links: &Links, supports: &mut Supports, event: EventId, residue: u16)
     requires fits { (I : Network) × AreFor I links.now supports.old }
     requires rest { AreAtRest links.now supports.old }
@@ -36,7 +36,7 @@ pub fn limit_event(links: &Links, supports: &mut Supports, event: EventId, resid
     }
 }
 
-/// Takes the residues of an event out at its place that are not in its window, if one is given.
+/// Removes the residues of an event that are not in its window, if there is such an event.
 pub fn limit(instance: &Instance, supports: &mut Supports, limited: &Option<PlacedEvent>)
     requires period { (supports.old).period ≡ (instance.now).period }
     requires place { (w : SomeEvent) → limited.now ≡ Some w → w.place < length (supports.old).rows }
@@ -53,7 +53,7 @@ pub fn limit(instance: &Instance, supports: &mut Supports, limited: &Option<Plac
     }
 }
 
-/// Takes the residues out of the rows that are not in the windows of their events.
+/// Removes the residues that are not in the windows of their events.
 pub fn limit_windows(instance: &Instance, links: &Links, supports: &mut Supports)
     requires fits { AreFor instance.now links.now supports.old }
     requires full { (p r : ℕ) → has_at (supports.old).rows p r

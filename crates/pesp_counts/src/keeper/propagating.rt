@@ -1,4 +1,4 @@
-//! Pairs come back, and those without a partner go.
+//! Propagation: restores pairs, and removes those without a partner.
 
 ghost use Rattle.std.specs.Prelude.{◌≡◌, ◌≤◌, ◌+◌, ◌*◌, ℕ, List, [], Some, length, vec_capacity};
 ghost use Rattle.std.specs.List.{Contains};
@@ -18,7 +18,7 @@ use pesp_counts_arcs::Links;
 use pesp_counts_supports::{Back, Supports};
 use pesp_instance::Instance;
 
-/// Puts back what a change reaches, and takes out what its window does not admit and what has no partner.
+/// Restores what a change reaches, and removes what its window excludes and what has no partner.
 pub fn propagate(
     change: &Change,
     instance: &Instance,
@@ -41,7 +41,8 @@ pub fn propagate(
     supports.settle_back(links, back);
 }
 
-/// Counts at both ends of an activity anew, if its place is given, and takes the pairs out that have no partner there.
+/// Recounts both ends of an activity, if its place is given, and removes the pairs without a
+/// partner there.
 fn recount(links: &Links, supports: &mut Supports, recounted: Option<usize>)
     requires fits { (I : Network) × AreFor I links.now supports.old }
     requires listed { (q : ℕ) → recounted ≡ Some q

@@ -11,7 +11,7 @@ use pesp_counts_supports::Placed;
 use pesp_domains::Pair;
 
 /// A pair by the number of its event.
-fn numbered(links: &Links, placed: Placed) -> Option<Pair>
+fn pair_of(links: &Links, placed: Placed) -> Option<Pair>
     requires { IsEventPlace links.now placed.place }
     ensures { result ≡ Some (numbered_pair links.now placed) }
 {
@@ -22,7 +22,7 @@ fn numbered(links: &Links, placed: Placed) -> Option<Pair>
     })
 }
 
-/// Lists pairs by the numbers of their events, in place of what was listed before. There is room for them.
+/// Lists pairs by the numbers of their events, and drops the earlier list. There is room for them.
 pub fn number_pairs(links: &Links, back: &[Placed], restored: &mut Vec<Pair>)
     requires places { All (λ x. IsEventPlace links.now x.place) back.now }
     requires room { length back.now ≤ vec_capacity restored.old }
@@ -31,22 +31,22 @@ pub fn number_pairs(links: &Links, back: &[Placed], restored: &mut Vec<Pair>)
 {
     restored.clear();
     for placed in back {
-        if let Some(pair) = numbered(links, *placed) {
+        if let Some(pair) = pair_of(links, *placed) {
             restored.push_reserved(pair);
         }
     }
 }
 
 impl CountKeeper {
-    /// The pairs that the last accepted edit put back, each once: those that it reaches. It took some of them out again, where
-    /// they have no partner.
+    /// The pairs that the last accepted edit restored, each once: those that it reaches. Those
+    /// without a partner were removed again.
     pub fn restored(&self) -> &[Pair]
         ensures { result.now ≡ (self.now).restored }
     {
         &self.counted.restored
     }
 
-    /// What the last accepted edit took.
+    /// The work of the last accepted edit.
     pub fn last_work(&self) -> Work
         ensures { result ≡ (self.now).work }
     {

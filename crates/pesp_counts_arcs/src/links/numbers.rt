@@ -15,14 +15,14 @@ impl Links {
         self.events.number(place)
     }
 
-    /// How many places for events there are.
+    /// The number of places for events.
     pub fn places(&self) -> usize
         ensures { result ≡ length (self.now).lists }
     {
         self.at.len()
     }
 
-    /// How many ends there are.
+    /// The number of ends.
     pub fn end_count(&self) -> usize
         ensures { result ≡ length (self.now).ends }
     {

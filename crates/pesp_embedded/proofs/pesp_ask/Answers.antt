@@ -2,6 +2,7 @@
 use Rattle.std.proofs.Common.{Some, sym, ap, ◌∙◌}
 use Rattle.pesp_shell_replies.specs.Legal.{work_of}
 use Rattle.pesp_embedded.specs.Answered.{fronted}
+use Rattle.pesp_embedded.specs.Numbers.{told_done}
 use Rattle.pesp_embedded.specs.Sessions.{work_in}
 use Rattle.pesp_embedded.specs.declared.told.Told.{Told}
 use Rattle.pesp_embedded.proofs.SessionLemmas.{goes_on, not_done}
@@ -20,7 +21,7 @@ returns-clause-answered c = elim c.match-ask.branch [
     open_after = ap work_in c.put.ensures;
     goes_on = goes_on (work_of c.deref_mut.result.now.bench) (work_of c.ask.new.bench) c.args.line.now w.in-Ok.reply.items w.in-Ok.ensures.legal;
     shown = w.put_front.ensures ∙ ap (λ text. fronted text c.args.out.now) w.as_slice.ensures.value;
-    length = ap (λ (told : Told). told.length) w.ended.ensures ∙ w.len.ensures ∙ w.in-Ok.reply.ok.0;
+    tells = w.ended.ensures ∙ ap told_done (w.len.ensures ∙ w.in-Ok.reply.ok.0);
   })
   | in-Err w ↦ λ done. absurd (not_done w.in-Err.fault c.match-ask.told (w.told-is ∙ w.told-in-Err.ensures) done)
 ]

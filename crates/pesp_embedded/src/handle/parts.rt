@@ -1,4 +1,4 @@
-//! A `Box` with its fields in sight. Only what reaches a pointer is proved by hand.
+//! The parts of a `Box`. Only functions that reach a pointer are proved by hand.
 
 ghost use Rattle.std.specs.Prelude.{◌≡◌};
 ghost use Rattle.std.specs.Box.Ownership.{box_owns};
@@ -6,11 +6,11 @@ ghost use Rattle.std.specs.Box.Ownership.{box_owns};
 use std::alloc::Allocator;
 use std::marker::Model;
 
-/// What a box is made of: as it, the parts own the value.
+/// The parts of a box. Like the box, they own the value.
 pub struct Parts<T, A: Allocator> {
-    // Of the value's block.
+    // Points to the value's block.
     pub(super) ptr: *mut T,
-    // Which gave the block.
+    // The allocator of that block.
     pub(super) alloc: A,
     pub ghost value: { T },
 }
@@ -20,7 +20,7 @@ impl<T, A: Allocator> Model for Parts<T, A> {
 }
 
 impl<T, A: Allocator> Parts<T, A> {
-    /// Those of a box.
+    /// The parts of this box.
     pub fn of(b: Box<T, A>) -> Parts<T, A>
     where
         T: Drop,
@@ -30,7 +30,7 @@ impl<T, A: Allocator> Parts<T, A> {
         Parts { ptr, alloc }
     }
 
-    /// The box that they are of.
+    /// The box with these parts.
     pub fn into_box(self) -> Box<T, A>
         ensures { result.value ≡ self.value }
     {

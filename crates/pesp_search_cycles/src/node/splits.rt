@@ -1,4 +1,4 @@
-//! How a node is split.
+//! Splits of a node.
 
 ghost use Rattle.std.specs.Prelude.{◌≡◌, ◌<◌, IfNone, IfOk, IfSome, drop, length};
 ghost use Rattle.pesp_search_least.specs.Sums.{AreHalves};
@@ -11,7 +11,7 @@ use crate::gap::gap_at;
 use pesp_base::Memory;
 
 impl<'a> Node<'a> {
-    /// The split that promises most, the half to be gone into first before the other one.
+    /// The most promising split, the half to search first before the other.
     fn proposed(&self) -> Option<Choice>
         ensures place { IfSome result (λ choice. HasPlace self.now.boxes choice.place) }
         ensures cut { IfSome result (λ choice.
@@ -26,7 +26,7 @@ impl<'a> Node<'a> {
         }
     }
 
-    /// The split of an event's range where its row lacks the residue of the tableau.
+    /// The split of an event's range if the tableau's residue is missing from its domain.
     fn at_gap(&self) -> Option<Choice>
         ensures place { IfSome result (λ choice. HasPlace self.now.boxes choice.place) }
         ensures cut { IfSome result (λ choice.
@@ -47,7 +47,7 @@ impl<'a> Node<'a> {
         None
     }
 
-    /// The split that promises most, or one at a gap of a row.
+    /// The most promising split, or one at a gap of a domain.
     fn first_choice(&self) -> Option<Choice>
         ensures place { IfSome result (λ choice. HasPlace self.now.boxes choice.place) }
         ensures cut { IfSome result (λ choice.
@@ -59,7 +59,7 @@ impl<'a> Node<'a> {
         }
     }
 
-    /// Which range is split. None is left where each event has one residue at most.
+    /// The split to make. There is none once each event has at most one residue.
     fn choice(&self) -> Option<Choice>
         ensures place { IfSome result (λ choice. HasPlace self.now.boxes choice.place) }
         ensures cut { IfSome result (λ choice.
@@ -73,7 +73,7 @@ impl<'a> Node<'a> {
         }
     }
 
-    /// Keeps the maps below the cut, and hands out those above it.
+    /// Keeps the maps below the split, and returns those above it.
     fn halve(&mut self, choice: Choice) -> Result<Node<'a>, Memory>
         requires place { HasPlace self.old.boxes choice.place }
         requires cut { IsCut self.old.cycles.now self.old.boxes choice.place choice.halves }
@@ -107,7 +107,7 @@ impl<'a> Node<'a> {
         })
     }
 
-    /// Keeps one half of the maps and hands out the other one, or leaves all where each event has one residue at most.
+    /// Keeps one half of the maps and returns the other, or keeps all if each event has at most one residue.
     pub(crate) fn halves(&mut self) -> Result<Option<Node<'a>>, Memory>
         ensures cycles { self.new.cycles ≡ self.old.cycles }
         ensures other { IfOk result (λ half. IfSome half (λ other.

@@ -1,4 +1,4 @@
-//! The maps that a tableau comes near to.
+//! Maps near the tableau's solution.
 
 use super::Proposer;
 use crate::Range;
@@ -10,17 +10,21 @@ use pesp_search_network::Network;
 use pesp_search_simplex::PARTS;
 use std::alloc::Global;
 
-/// From this depth on a map is made at each of so many nodes, and before it at all: it costs as much as a few pivots.
+/// From this depth on a map is made only at some nodes, because it takes as long as a few pivots
+/// (docs/DECISIONS.md, "A search by cycles"). No trial of this depth is recorded.
 const DEEP: usize = 8;
 
+/// One node of this number gets a map there. Without this rule a 9 by 9 grid took 1.8 s instead of 1.1
+/// (docs/HISTORY.md, "What the search could do without").
 const NODES_OF_MAP: usize = 4;
 
-/// How many numbers a map is polished with at most.
+/// The most numbers visited to polish a map. Polishing is not charged to the budget, so it needs a limit of its
+/// own. No trial of this number is recorded.
 const POLISHING: u64 = 4_194_304;
 
 impl Proposer {
-    /// The slack of an arc. One that admits all slacks and costs nothing stands in no walk, so its slack in the tableau says
-    /// nothing: a half puts it after all others.
+    /// The slack of an arc. An idle arc is in no walk, so its slack in the tableau means nothing: half a unit
+    /// ranks it after all others.
     fn slack(&self, index: usize, arc: &Arc, period: Period) -> i64 {
         if arc.weight.get() == 0 && arc.width(period) == period.get() - 1 {
             PARTS / 2
@@ -47,12 +51,12 @@ impl Proposer {
         Ok(slacks)
     }
 
-    /// Whether a map of this node is worth its work. Where all times are whole it costs what the tableau says.
+    /// Whether a map of this node is worth its work. If all rounds are whole, it costs what the tableau says.
     pub(crate) fn has_map(&self, period: Period) -> bool {
         self.depth < DEEP || self.depth % NODES_OF_MAP == 0 || self.is_whole(period)
     }
 
-    /// A map by the slacks of the tableau, polished or not.
+    /// A map near the tableau's slacks, polished or not.
     pub(crate) fn map(
         &self,
         alloc: Global,

@@ -1,30 +1,34 @@
-//! Which split a tableau promises most of.
+//! The most promising split.
 
 use super::Proposer;
 use pesp_base::Period;
 use pesp_search_simplex::PARTS;
 
-/// In parts of what gains and places between two whole numbers of periods are told.
+/// Gains, and positions between two multiples of the period, are in units of 1 / `UNIT`.
 const UNIT: i64 = 256;
 
-/// Which walk is to be split, and at which time.
+/// The walk to split, and where.
 #[derive(Clone, Copy)]
 pub(crate) struct Proposal {
-    // By index, and in units of time.
+    // The index of the walk.
     pub(crate) walk: usize,
+    // The time at which its round is split, a multiple of the period.
     pub(crate) at: i64,
-    // Whether the half with more periods is to be gone into first.
+    // Whether the half with the greater round comes first: the nearer one, without which 200 wide events took
+    // over 4 s instead of 0.7 (docs/HISTORY.md, "What the search could do without").
     pub(crate) is_above_first: bool,
 }
 
-/// How good a split is by what both halves gain.
+/// The score of a split by the gains of both halves (the product rule): without it, 200 narrow events took ten
+/// times as long (docs/HISTORY.md, "What the search could do without"). With an eighth added to both gains, a
+/// split with one gain of 0 still ranks by the other.
 fn score(down: i64, up: i64) -> i64 {
     down.saturating_add(UNIT / 8)
         .saturating_mul(up.saturating_add(UNIT / 8))
 }
 
 impl Proposer {
-    /// What a split of a walk at its time is worth, where that is between two whole numbers of periods.
+    /// The score of a split of a walk, if its round is between two multiples of the period.
     fn value_of(&self, walk: usize, period: i64) -> Option<(i64, Proposal)> {
         let number = self.number_of(walk);
         if !self.tableau.is_basic(number) {
@@ -53,7 +57,7 @@ impl Proposer {
         Some((score(down, up), proposal))
     }
 
-    /// The split that promises most, if the time of some walk is between two whole numbers of periods.
+    /// The most promising split, if the round of some walk is between two multiples of the period.
     pub(crate) fn split(&self, period: Period) -> Option<Proposal> {
         let mut best = None;
         let mut most = -1;
@@ -68,7 +72,7 @@ impl Proposer {
         best
     }
 
-    /// Whether the time of each walk is a whole number of periods.
+    /// Whether the round of each walk is a multiple of the period.
     pub(crate) fn is_whole(&self, period: Period) -> bool {
         for walk in 0..self.bases.len() {
             if self.value_of(walk, i64::from(period.get())).is_some() {

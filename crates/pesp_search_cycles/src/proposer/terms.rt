@@ -1,4 +1,4 @@
-//! What the rows of a tableau are made of: walks and cuts as terms.
+//! The terms of a tableau's rows: those of walks and cuts.
 
 use crate::Walk;
 use crate::flip::{FlipCut, Part as Share};
@@ -9,7 +9,7 @@ use pesp_search_network::Network;
 use pesp_search_simplex::Term;
 use std::alloc::Global;
 
-/// The weights of the arcs, and 0 for each event.
+/// The weight of each arc, and 0 for each event.
 pub(super) fn costs_of(alloc: Global, network: &Network) -> Result<Vec<u32>, Memory> {
     let mut costs = Vec::new(alloc);
     for arc in network.arcs() {
@@ -25,7 +25,7 @@ pub(super) fn costs_of(alloc: Global, network: &Network) -> Result<Vec<u32>, Mem
     Ok(costs)
 }
 
-/// What all arcs cost at most.
+/// The greatest cost of all arcs together.
 fn most_cost(network: &Network) -> u64 {
     let period = network.period();
     let mut most: u64 = 0;
@@ -36,12 +36,14 @@ fn most_cost(network: &Network) -> u64 {
     most
 }
 
-/// How many bits after the point multipliers may have: sums of the bound have 64 bits, of which three are left free.
+/// The most bits that multipliers may have after the point: sums of the bound have 64 bits, of which three are
+/// left free. With a scale that falls as weights grow, sums of 128 bits are not needed (docs/HISTORY.md, "A
+/// local search, turns by bounds, and tied events as one").
 pub(super) fn room_of(network: &Network) -> u32 {
     most_cost(network).leading_zeros().saturating_sub(4)
 }
 
-/// What the lower bounds of a walk's arcs add up to.
+/// The sum of the lower bounds of a walk's arcs.
 pub(super) fn base_of(arcs: &[Arc], walk: &Walk) -> i64 {
     let mut base: i64 = 0;
     for step in &walk.steps {
@@ -83,7 +85,7 @@ pub(super) fn terms_of(alloc: Global, arcs: usize, walk: &Walk) -> Result<Vec<Te
     Ok(terms)
 }
 
-/// The terms of a cut: its rates are below a period.
+/// The terms of a cut, whose coefficients are below a period.
 pub(super) fn terms_of_cut(alloc: Global, cut: &FlipCut) -> Result<Vec<Term>, Memory> {
     let mut terms = Vec::new(alloc);
     for part in &cut.terms {
@@ -96,7 +98,7 @@ pub(super) fn terms_of_cut(alloc: Global, cut: &FlipCut) -> Result<Vec<Term>, Me
     Ok(terms)
 }
 
-/// Whether the first of the terms is in the part; all are, where one is.
+/// Whether the first of the terms is in the part; then all are.
 pub(super) fn are_of(terms: &[Term], part: Option<Part>) -> bool {
     match (part, terms.first()) {
         (Some(part), Some(term)) => part.has(term.number),
@@ -105,7 +107,7 @@ pub(super) fn are_of(terms: &[Term], part: Option<Part>) -> bool {
     }
 }
 
-/// What terms are together at most.
+/// The greatest sum of terms.
 pub(super) fn most_of(network: &Network, terms: &[Share]) -> i64 {
     let period = network.period();
     let mut most: i64 = 0;

@@ -1,4 +1,4 @@
-//! Networks in which events that go with one another are one.
+//! Networks in which tied events are merged.
 
 ghost use Rattle.std.specs.Prelude.{◌≡◌, IfOk, IfSome};
 ghost use Rattle.pesp_search_network.specs.Reduced.{IsReduction};
@@ -11,7 +11,7 @@ use pesp_base::Memory;
 use std::alloc::Global;
 
 impl Network {
-    /// Tells of those events of the reduced network that they are implied with which only implied ones go.
+    /// Marks the reduced network's events as implied if all their tied events are.
     fn imply_clusters(
         &self,
         alloc: Global,
@@ -38,8 +38,8 @@ impl Network {
         Ok(())
     }
 
-    /// A network with an event for each cluster, if there is one of more events than its leader.
-    pub(crate) fn clustered(&self, alloc: Global) -> Result<Option<Reduction>, Memory>
+    /// A network with one event for each cluster, if some cluster has several events.
+    pub(crate) fn cluster(&self, alloc: Global) -> Result<Option<Reduction>, Memory>
         ensures { IfOk result (λ found. IfSome found (IsReduction self.now)) }
     {
         self.sound();

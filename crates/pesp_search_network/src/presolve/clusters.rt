@@ -1,4 +1,4 @@
-//! Clusters: events that go with one another, each led by the first of them.
+//! Clusters of tied events, each led by its first one.
 
 ghost use Rattle.std.specs.Prelude.{◌≡◌, ◌+◌, ◌++◌, ◌∷◌, [], ◌<◌, true, IfOk, OnOk, length, vec_len};
 ghost use Rattle.pesp_search_network.specs.Tied.{AreAscending, AreLed, AreTied, IsTied};
@@ -8,16 +8,16 @@ use crate::presolve::shift::{Shift, later};
 use pesp_base::Memory;
 use std::alloc::Global;
 
-/// The leaders, ascending, and which of them each event goes with.
+/// The leaders in ascending order, and the cluster of each event.
 #[derive(Drop)]
 pub(crate) struct Clusters {
-    // By cluster, ascending.
+    // For each cluster its leader, ascending.
     pub(crate) leaders: Vec<usize>,
-    // By event, with the cluster for its index.
+    // For each event its cluster and offset.
     pub(crate) shifts: Vec<Shift>,
 }
 
-/// Whether each event goes with one that another went with before, or with the next one, and no later.
+/// Whether each event belongs to a cluster of an event before it, or to the next new one.
 pub(crate) fn are_ascending(shifts: &[Shift]) -> bool
     ensures { result ≡ true → AreAscending 0 shifts.now }
 {
@@ -34,7 +34,7 @@ pub(crate) fn are_ascending(shifts: &[Shift]) -> bool
 }
 
 impl Clusters {
-    /// With what the next event goes.
+    /// Appends the cluster of the next event.
     fn put(&mut self, shift: Shift) -> Result<(), Memory>
         ensures shifts { OnOk result (self.new.shifts.items ≡ self.old.shifts.items ++ shift ∷ []) }
         ensures leaders { self.new.leaders.items ≡ self.old.leaders.items }
@@ -48,7 +48,7 @@ impl Clusters {
 }
 
 impl Network {
-    /// The next event goes with what the event goes with that it is tied to, or leads.
+    /// Puts the next event into the cluster of the event that it is tied to, or makes it a leader.
     fn follow(&self, clusters: &mut Clusters, tie: Shift) -> Result<(), Memory>
         requires led { AreLed self.now (vec_len clusters.old.shifts) clusters.old.leaders.items clusters.old.shifts.items }
         requires event { vec_len clusters.old.shifts < self.now.events }
@@ -70,7 +70,7 @@ impl Network {
         clusters.put(Shift { index, offset: 0 })
     }
 
-    /// The clusters of the events that are tied.
+    /// The clusters of tied events.
     pub(crate) fn clusters(&self, alloc: Global, ties: &[Shift]) -> Result<Clusters, Memory>
         requires { AreTied self.now ties.now }
         ensures { IfOk result (λ clusters.

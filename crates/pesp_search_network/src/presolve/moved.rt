@@ -9,7 +9,7 @@ use crate::presolve::shift::Shift;
 use crate::{Arc, Network};
 use pesp_base::{Memory, Period, Span, slack};
 
-/// The span of these bounds, if they may be those of one.
+/// The span with these bounds, if it is a valid one.
 fn span_between(lower: i32, upper: i32) -> Option<Span>
     ensures { IfSome result (λ span. (span.lower ≡ lower) × (span.upper ≡ upper)) }
 {
@@ -19,8 +19,8 @@ fn span_between(lower: i32, upper: i32) -> Option<Span>
     }
 }
 
-/// The arc between the events with which its ends go, which has at their residues the slack that the arc has.
-fn moved(period: Period, arc: &Arc, from: Shift, to: Shift) -> Option<Arc>
+/// The arc between the events that represent the ends, with the same slack at their residues.
+fn move_arc(period: Period, arc: &Arc, from: Shift, to: Shift) -> Option<Arc>
     ensures { IfSome result (IsMoved period arc.now from to) }
 {
     if from.offset >= period.get() || to.offset >= period.get() {
@@ -37,7 +37,7 @@ fn moved(period: Period, arc: &Arc, from: Shift, to: Shift) -> Option<Arc>
 }
 
 impl Network {
-    /// Gives a reduced network without arcs an arc for each of these, and says whether each has one.
+    /// Adds the moved arcs to a reduced network, and returns whether each arc could be moved.
     pub(crate) fn move_arcs(&self, reduced: &mut Network, shifts: &[Shift]) -> Result<bool, Memory>
         requires long { length shifts.now ≡ self.now.events }
         requires within { (event : ℕ) (d : Shift) → event < self.now.events
@@ -50,7 +50,7 @@ impl Network {
         let period = self.period();
         for index in 0..self.arc_count() {
             let arc = self.arc(index);
-            let Some(moved) = moved(period, &arc, shifts[arc.from], shifts[arc.to]) else {
+            let Some(moved) = move_arc(period, &arc, shifts[arc.from], shifts[arc.to]) else {
                 return Ok(false);
             };
             reduced.add(moved)?;

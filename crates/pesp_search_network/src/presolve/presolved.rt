@@ -9,11 +9,11 @@ use pesp_base::Memory;
 use std::alloc::Global;
 
 impl Network {
-    /// The network in its own place.
+    /// The trivial reduction: the network itself.
     fn itself(&self, alloc: Global) -> Result<Reduction, Memory>
         ensures { IfOk result (IsReduction self.now) }
     {
-        let shifts = self.untied(alloc)?;
+        let shifts = self.own_shifts(alloc)?;
         Ok(Reduction {
             network: self.copy()?,
             shifts,
@@ -22,11 +22,11 @@ impl Network {
         })
     }
 
-    /// A network that is searched in the place of this one, or none, where no map has a cost.
+    /// A reduction of this network, or none if no map has a cost.
     pub fn presolve(&self, alloc: Global) -> Result<Option<Reduction>, Memory>
         ensures { IfOk result (IsPresolved self.now) }
     {
-        match self.clustered(alloc)? {
+        match self.cluster(alloc)? {
             Some(reduction) => Ok(Some(reduction)),
             None => Ok(Some(self.itself(alloc)?)),
         }

@@ -1,4 +1,4 @@
-//! Networks that are searched in the place of others.
+//! Reductions of a network.
 
 ghost use Rattle.std.specs.Prelude.{◌≡◌, ◌↔◌, ℕ, ◌+◌, ◌*◌, ◌-◌, ◌^◌, ◌<◌, IfOk, min};
 ghost use Rattle.pesp_search_least.specs.Sums.{IsCandidate};
@@ -12,20 +12,21 @@ use pesp_base::Memory;
 use pesp_search_least::Candidate;
 use std::alloc::Global;
 
-/// A network that is searched in the place of another.
+/// A network that is searched instead of another, the original.
 #[derive(Drop)]
 pub struct Reduction {
+    /// The network to search.
     pub network: Network,
-    /// For each event of the other network the one that it goes with.
+    /// For each original event, the event that represents it.
     pub shifts: Vec<Shift>,
-    /// What each map costs in the other network that it does not cost here.
+    /// The original cost of a map, less `factor` times its cost here.
     pub fixed: u64,
-    /// What a unit of cost is there.
+    /// The original cost of a unit of cost here.
     pub factor: u64,
 }
 
 impl Reduction {
-    /// The cap here of a cap there.
+    /// The cap here for a cap on original costs.
     pub fn cap(&self, cap: u64) -> u64
         requires { 0 < self.now.factor }
         ensures { (part : ℕ) → (part < result) ↔ (self.now.fixed + self.now.factor * part < cap) }
@@ -33,7 +34,7 @@ impl Reduction {
         cap.saturating_sub(self.fixed).div_ceil(self.factor)
     }
 
-    /// The lower bound there of a lower bound here.
+    /// The lower bound on original costs from a lower bound here.
     pub fn lower_bound(&self, bound: u64) -> u64
         ensures { result ≡ min (self.now.fixed + self.now.factor * bound) (2 ^ 64 - 1) }
     {
@@ -42,7 +43,7 @@ impl Reduction {
 }
 
 impl Network {
-    /// The map of this network that one of the reduced network is.
+    /// The original map from a map of the reduced network.
     pub fn lift(
         &self,
         alloc: Global,

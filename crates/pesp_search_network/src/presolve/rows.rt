@@ -1,4 +1,4 @@
-//! The rows of a reduced network: an event may stand where all may that go with it.
+//! The domains of a reduced network: the residues that suit all events tied together.
 
 ghost use Rattle.std.specs.Prelude.{◌≡◌, ℕ, ◌*◌, ◌<◌, true, length, replicate, slice_index_or};
 ghost use Rattle.pesp_search_network.specs.Tied.{AreRowsHeld, IsHeldTo};
@@ -8,7 +8,7 @@ use crate::Network;
 use crate::presolve::shift::{Shift, later};
 
 impl Network {
-    /// Leaves an event of a reduced network the residues at which this event may stand, which goes with it.
+    /// Restricts an event of a reduced network to residues that suit this event, which it represents.
     fn hold_to(&self, reduced: &mut Network, event: usize, shift: Shift)
         requires event { event < self.now.events }
         requires index { shift.index < reduced.old.events }
@@ -23,8 +23,8 @@ impl Network {
         }
     }
 
-    /// Leaves each event of a reduced network, which may stand everywhere, the residues at which all events may stand that go
-    /// with it.
+    /// Restricts each event of a reduced network, whose domains are full, to the residues that suit all events
+    /// that it represents.
     pub(crate) fn hold_rows(&self, reduced: &mut Network, shifts: &[Shift])
         requires long { length shifts.now ≡ self.now.events }
         requires within { (event : ℕ) (d : Shift) → event < self.now.events

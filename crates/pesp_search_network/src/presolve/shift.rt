@@ -1,4 +1,4 @@
-//! How the maps of a network follow from those of one with fewer events.
+//! How maps of a network follow from those of one with fewer events.
 
 ghost use Rattle.std.specs.Prelude.{◌≡◌, ◌+◌, ◌%◌, IfOk, slice_index};
 ghost use Rattle.pesp_search_network.specs.Shifts.{lifted};
@@ -6,15 +6,16 @@ ghost use Rattle.pesp_search_network.specs.Shifts.{lifted};
 use pesp_base::{Memory, Period};
 use std::alloc::Global;
 
-/// An event goes with one of the reduced network, so much later.
+/// The event that represents another one, which is later by a fixed offset.
 #[derive(Clone, Copy, PartialEq, Eq)]
 pub struct Shift {
+    /// The index of the event that represents it.
     pub index: usize,
-    // Below the period.
+    // How much later it is, below the period.
     pub offset: u16,
 }
 
-/// The sum of two numbers, less whole periods.
+/// The sum of two residues modulo the period.
 pub(crate) fn later(period: Period, residue: u16, offset: u16) -> u16
     ensures { result ≡ (residue + offset) % period }
 {
@@ -34,7 +35,7 @@ impl Shift {
     }
 }
 
-/// The map whose events go with those of a reduced network.
+/// The map that follows from a map of the reduced network.
 pub(crate) fn lifted_map(
     alloc: Global,
     period: Period,

@@ -1,4 +1,4 @@
-//! Which events go with one another at each map: those that arcs of width 0 join.
+//! Ties: events whose difference is the same in each map, because arcs of width 0 join them.
 
 ghost use Rattle.std.specs.Prelude.{◌<◌, IfOk, length};
 ghost use Rattle.pesp_search_network.specs.Tied.{AreTied, AreUntied};
@@ -8,12 +8,13 @@ use crate::presolve::shift::{Shift, later};
 use pesp_base::{Memory, slack};
 use std::alloc::Global;
 
-/// How often all arcs are gone through at most.
+/// The most passes over all arcs. It bounds the work on long chains of ties in no order; ties that more passes
+/// would find stay apart (docs/DECISIONS.md, "A search by cycles").
 const MOST_PASSES: u32 = 64;
 
 impl Network {
-    /// Each event goes with itself.
-    pub(crate) fn untied(&self, alloc: Global) -> Result<Vec<Shift>, Memory>
+    /// Ties each event to itself.
+    pub(crate) fn own_shifts(&self, alloc: Global) -> Result<Vec<Shift>, Memory>
         ensures untied { IfOk result (λ ties. AreUntied self.now.events ties.items) }
         ensures tied { IfOk result (λ ties. AreTied self.now ties.items) }
     {
@@ -27,8 +28,7 @@ impl Network {
         Ok(ties)
     }
 
-    /// Where the arc has the width 0, its end that goes with the later event goes with that of the
-    /// other end from now on.
+    /// If the arc has width 0, ties its end with the later representative to that of the other end.
     fn tie(&self, ties: &mut [Shift], index: usize)
         requires index { index < length self.now.arcs }
         requires ties { AreTied self.now ties.old }
@@ -52,7 +52,7 @@ impl Network {
         }
     }
 
-    /// Ties the ends of all arcs of width 0, one after the other.
+    /// Applies `tie` to all arcs, in order.
     fn tie_forwards(&self, ties: &mut [Shift])
         requires { AreTied self.now ties.old }
         ensures { AreTied self.now ties.new }
@@ -62,7 +62,7 @@ impl Network {
         }
     }
 
-    /// The same from the last arc to the first.
+    /// Applies `tie` to all arcs, in reverse order.
     fn tie_backwards(&self, ties: &mut [Shift])
         requires { AreTied self.now ties.old }
         ensures { AreTied self.now ties.new }
@@ -72,11 +72,11 @@ impl Network {
         }
     }
 
-    /// With which event each goes, and how much later it is at each map.
+    /// The representative and the offset of each event.
     pub(crate) fn ties(&self, alloc: Global) -> Result<Vec<Shift>, Memory>
         ensures { IfOk result (λ ties. AreTied self.now ties.items) }
     {
-        let mut ties = self.untied(alloc)?;
+        let mut ties = self.own_shifts(alloc)?;
         for _pass in 0..MOST_PASSES {
             let Ok(before) = ties.clone() else {
                 return Err(Memory);

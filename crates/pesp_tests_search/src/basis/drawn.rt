@@ -1,4 +1,4 @@
-//! The cycles and ways of drawn networks.
+//! Cycles and paths of random networks.
 
 use crate::basis::lists::{add, repeated};
 use crate::basis::short::{Short, arcs_of, end_of, ends_of, period, width_of};
@@ -9,18 +9,18 @@ use std::alloc::Global;
 use std::process::Abort;
 use std::test::Fail;
 
-/// How many networks are drawn.
+/// The number of random networks.
 const DRAWN: usize = 300;
 
-/// Numbers that look drawn.
+/// A pseudorandom generator.
 #[derive(Drop)]
 struct Draws {
-    // Any number; each draw makes the next one of it.
+    // Any number; each draw computes the next one from it.
     state: u64,
 }
 
 impl Draws {
-    /// A number below another one.
+    /// A number below `end`.
     fn below(&mut self, end: u64) -> u64 {
         self.state = self
             .state
@@ -29,12 +29,12 @@ impl Draws {
         (self.state >> 33).checked_rem(end).unwrap_or(0)
     }
 
-    /// How many nodes a network has.
+    /// The number of nodes of a network.
     fn nodes(&mut self) -> usize {
         (self.below(12) as usize).saturating_add(1)
     }
 
-    /// An arc between nodes, now and then a loop or idle.
+    /// An arc between nodes, sometimes a loop or idle.
     fn arc(&mut self, nodes: usize) -> Short {
         let from = self.below(nodes as u64) as usize;
         let to = self.below(nodes as u64) as usize;
@@ -62,7 +62,7 @@ impl Draws {
     }
 }
 
-/// Whether a walk closes, and passes no node twice.
+/// Whether a walk is closed and visits no node twice.
 fn is_cycle(alloc: Global, nodes: usize, arcs: &[Arc], steps: &[Step]) -> Result<bool, Memory> {
     let mut was_there = repeated(alloc, false, nodes)?;
     for step in steps {
@@ -83,7 +83,7 @@ fn is_cycle(alloc: Global, nodes: usize, arcs: &[Arc], steps: &[Step]) -> Result
     Ok(end_of(arcs, begin, steps) == Some(begin))
 }
 
-/// Whether all are cycles.
+/// Whether all walks are cycles.
 fn are_cycles(
     alloc: Global,
     nodes: usize,
@@ -98,7 +98,7 @@ fn are_cycles(
     Ok(true)
 }
 
-/// Adds one row to another over two, if that one has the column.
+/// Adds one row to another modulo 2, if that one contains the column.
 fn add_row(row: &mut [bool], other: &[bool], column: usize) {
     if row.get(column).copied().unwrap_or(false) {
         for (bit, more) in row.iter_mut().zip(other) {
@@ -118,7 +118,7 @@ fn row_of(alloc: Global, arcs: usize, steps: &[Step]) -> Result<Vec<bool>, Memor
     Ok(row)
 }
 
-/// Whether none of the walks is a sum over two of others.
+/// Whether no walk is a sum of others modulo 2.
 fn are_independent(alloc: Global, arcs: usize, walks: &[Vec<Step>]) -> Result<bool, Memory> {
     let mut rows: Vec<(usize, Vec<bool>)> = Vec::new(alloc);
     for steps in walks {
@@ -134,7 +134,7 @@ fn are_independent(alloc: Global, arcs: usize, walks: &[Vec<Step>]) -> Result<bo
     Ok(true)
 }
 
-/// The sum of the widths of walks.
+/// The total width of walks.
 fn width_of_all(period: Period, arcs: &[Arc], walks: &[Vec<Step>]) -> u64 {
     let mut sum = 0u64;
     for steps in walks {
@@ -143,7 +143,7 @@ fn width_of_all(period: Period, arcs: &[Arc], walks: &[Vec<Step>]) -> u64 {
     sum
 }
 
-/// What is wrong with the cycles of a network.
+/// The fault of a network's cycles, if there is one.
 fn fault_of(
     alloc: Global,
     period: Period,
@@ -172,7 +172,7 @@ fn fault_of(
     Ok(None)
 }
 
-/// How wide an arc is; an idle one is wider than all others.
+/// The width of an arc; an idle one is wider than all others.
 fn width_beside(period: Period, arc: &Arc) -> u64 {
     let width = u64::from(arc.width(period));
     if width == 9 && arc.weight.get() == 0 {
@@ -182,7 +182,7 @@ fn width_beside(period: Period, arc: &Arc) -> u64 {
     }
 }
 
-/// Writes for both ends of an arc that they are no farther than the other end and the arc.
+/// Relaxes an arc: neither end is farther than the other end and the arc.
 fn relax(widths: &mut [u64], arc: &Arc, width: u64) {
     for (from, to) in [(arc.from, arc.to), (arc.to, arc.from)] {
         let by_arc = widths
@@ -196,7 +196,7 @@ fn relax(widths: &mut [u64], arc: &Arc, width: u64) {
     }
 }
 
-/// The width of a least way to the nearest node that is wanted.
+/// The width of a shortest path to the nearest wanted node.
 fn least_width(
     alloc: Global,
     period: Period,
@@ -222,7 +222,7 @@ fn least_width(
     Ok(least)
 }
 
-/// The width of a walk from a node to one that is wanted.
+/// The width of a walk from a node to a wanted one.
 fn width_of_way(
     period: Period,
     arcs: &[Arc],
@@ -241,7 +241,7 @@ fn width_of_way(
     Some(sum)
 }
 
-/// Whether the way from the first node to one that is wanted is a least one.
+/// Whether the path from the first node to a wanted one is a shortest one.
 fn is_least(alloc: Global, period: Period, arcs: &[Arc], wanted: &[bool]) -> Result<bool, Memory> {
     let least = least_width(alloc, period, arcs, 0, wanted)?;
     match way(alloc, period, wanted.len(), arcs, 0, wanted)? {

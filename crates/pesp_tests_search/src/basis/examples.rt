@@ -1,4 +1,4 @@
-//! The cycles and ways of small networks.
+//! Cycles and paths of small networks.
 
 use crate::basis::short::{Gone, Short, arcs_of, is_walk, period};
 use pesp_search_basis::{cycle_count, narrow_cycles, tree_cycles, way};
@@ -14,7 +14,7 @@ const TRIANGLE: [Short; 5] = [
     (2, 0, 9, 0),
 ];
 
-/// A line of five nodes that arc 5 closes, and arc 4 cuts short.
+/// A line of five nodes that arc 5 closes, with a shortcut by arc 4.
 const RING: [Short; 6] = [
     (0, 1, 3, 1),
     (1, 2, 3, 1),
@@ -24,16 +24,16 @@ const RING: [Short; 6] = [
     (4, 0, 5, 1),
 ];
 
-/// Two arcs between the same nodes, one each way; an arc on; and an idle one on from there.
+/// Two opposite arcs between two nodes, an arc to a third node, and an idle one from there.
 const PAIR: [Short; 4] = [(0, 1, 1, 1), (1, 0, 2, 1), (1, 2, 0, 1), (2, 3, 9, 0)];
 
-/// An idle arc, and a wide way beside it.
+/// An idle arc, and a wide path beside it.
 const BESIDE: [Short; 3] = [(0, 1, 9, 0), (0, 2, 8, 1), (2, 1, 8, 1)];
 
 /// Three arcs between the same nodes, of which the second is the narrowest.
 const THREE: [Short; 3] = [(0, 1, 5, 1), (0, 1, 1, 1), (0, 1, 2, 1)];
 
-/// An arc that constrains nothing, but costs something, and one back.
+/// An arc that constrains nothing but has a weight, and one back.
 const COSTLY: [Short; 2] = [(0, 1, 9, 1), (1, 0, 3, 1)];
 
 /// Whether walks have these steps.

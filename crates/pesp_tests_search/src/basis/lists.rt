@@ -1,9 +1,9 @@
-//! Lists that are filled.
+//! Growing vectors.
 
 use pesp_base::Memory;
 use std::alloc::Global;
 
-/// Adds one more after the others.
+/// Appends an item.
 pub(crate) fn add<T: Drop>(list: &mut Vec<T>, item: T) -> Result<(), Memory> {
     match list.push(item) {
         Ok(()) => Ok(()),
@@ -11,7 +11,7 @@ pub(crate) fn add<T: Drop>(list: &mut Vec<T>, item: T) -> Result<(), Memory> {
     }
 }
 
-/// The same item so many times.
+/// A list of copies of an item.
 pub(crate) fn repeated<T: Copy + Drop>(
     alloc: Global,
     item: T,

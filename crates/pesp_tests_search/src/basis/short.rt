@@ -1,4 +1,4 @@
-//! Networks and walks in short, for tests.
+//! Short notation for networks and walks.
 
 use crate::basis::lists::add;
 use pesp_base::{Memory, Period, Span, Weight};
@@ -6,10 +6,10 @@ use pesp_search_graph::{Arc, Step};
 use std::alloc::Global;
 use std::process::Abort;
 
-/// From which node to which an arc leads, how wide it is, and its weight.
+/// The start and the end of an arc, its width, and its weight.
 pub(crate) type Short = (usize, usize, u16, u32);
 
-/// An arc, and whether it is gone along.
+/// An arc, and whether it is traversed from start to end.
 pub(crate) type Gone = (usize, bool);
 
 /// The period of all networks in tests: an arc of width 9 and weight 0 is idle.
@@ -47,7 +47,7 @@ pub(crate) fn is_walk(steps: &[Step], wanted: &[Gone]) -> bool {
     is_same
 }
 
-/// Where a step begins and ends.
+/// The start and the end of a step.
 pub(crate) fn ends_of(arcs: &[Arc], step: Step) -> Option<(usize, usize)> {
     let arc = arcs.get(step.arc)?;
     if step.along {
@@ -57,7 +57,7 @@ pub(crate) fn ends_of(arcs: &[Arc], step: Step) -> Option<(usize, usize)> {
     }
 }
 
-/// Where a walk from a node ends, if each step begins where the one before it ends.
+/// The end of a walk from a node, if each step starts where the one before it ends.
 pub(crate) fn end_of(arcs: &[Arc], from: usize, steps: &[Step]) -> Option<usize> {
     let mut node = from;
     for step in steps {
@@ -70,7 +70,7 @@ pub(crate) fn end_of(arcs: &[Arc], from: usize, steps: &[Step]) -> Option<usize>
     Some(node)
 }
 
-/// The sum of the widths of a walk.
+/// The total width of a walk.
 pub(crate) fn width_of(period: Period, arcs: &[Arc], steps: &[Step]) -> u64 {
     let mut sum = 0u64;
     for step in steps {

@@ -1,11 +1,11 @@
-//! What `least` and `first` find on a line.
+//! Results of `least` and `first` on a line.
 
 use crate::least::line::Line;
 use pesp_search_least::{Budget, First, Limits, Outcome, first, least};
 use std::alloc::Global;
 use std::process::Abort;
 
-/// The residues 2 and 4 have the least sum; 0 and 5 have none.
+/// Residues 2 and 4 have the least sum; 0 and 5 have none.
 const COSTS: [Option<u64>; 6] = [None, Some(7), Some(4), Some(9), Some(4), None];
 
 fn line() -> Line {
@@ -16,7 +16,7 @@ fn line() -> Line {
     }
 }
 
-/// What a search says in short: the cost, or the lower bound of a stop.
+/// The result of a search in short: the cost, or the lower bound of a stop.
 #[derive(Clone, Copy, PartialEq, Eq, Debug)]
 enum Said {
     Found(u64),
@@ -43,7 +43,7 @@ fn same(rt: &impl Abort, got: Said, wanted: Said, message: &str) {
     assert_eq!(rt; got, wanted, "{message}");
 }
 
-/// Searches the line for a sum below the cap with so many units.
+/// Searches the line for a sum below the cap with these units.
 fn search(rt: &(impl Abort + AllocGlobal), cap: u64, budget: &mut Budget) -> Outcome {
     least(rt.alloc(), line(), Limits { floor: 0, cap }, budget).expect(rt, "memory")
 }
@@ -69,7 +69,7 @@ fn least_of_a_line(rt: HostRuntime) {
     assert_said(&rt, 0, 0, Said::NoneBelow, "no sum is below the floor");
 }
 
-/// The residue of the first map of least sum, from the one that the search for a least sum finds.
+/// The residue of the first map of least sum, starting from what `least` finds.
 fn first_residue(alloc: Global, all: &Line, units: u64) -> Option<u16> {
     let limits = Limits { floor: 0, cap: 100 };
     let mut budget = Budget::of(units);

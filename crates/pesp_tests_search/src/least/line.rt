@@ -1,4 +1,4 @@
-//! A plain instance, for examples: one event, and a sum for each of its residues.
+//! A simple example: one event, and a sum for each of its residues.
 
 ghost use Rattle.std.specs.Prelude.{◌≡◌, ◌≤◌, ◌<◌, ◌∷◌, [], min, ℕ, List, Option, IfOk, MatchOption, Some, None, slice_get};
 
@@ -6,14 +6,14 @@ use pesp_base::Memory;
 use pesp_search_least::{Budget, Candidate, Limits, Outcome, Region, Relaxation, Split, least};
 use std::alloc::Global;
 
-/// The maps that give the one event a residue from the lowest on, and below the end.
+/// The maps that give the one event a residue from `lowest` on and below `end`.
 #[derive(Drop)]
 pub(crate) struct Line {
-    /// What each residue sums up to; None where it has no sum.
+    /// The sum of each residue; None if it has no sum.
     pub(crate) costs: [Option<u64>; 6],
-    // The least residue that is left.
+    // The least remaining residue.
     pub(crate) lowest: u16,
-    // None is left from here on; at most 6.
+    // No residue remains from here on; at most 6.
     pub(crate) end: u16,
     ghost within: { end ≤ 6 },
 }

@@ -1,4 +1,4 @@
-//! What is made and polished of drawn networks, and of a few by hand.
+//! Maps computed and polished for random networks, and for a few small ones.
 
 use pesp_base::{Memory, Period, Span, Weight};
 use pesp_search_graph::Arc;
@@ -6,18 +6,18 @@ use pesp_search_maps::{Charge, map_of, polish};
 use std::alloc::Global;
 use std::process::Abort;
 
-/// More than any search here goes through.
+/// More work than any search here needs.
 const MUCH: u64 = 1_000_000_000;
 
 /// The ends of an arc, its bounds and its weight.
 pub(crate) type Line = (usize, usize, i32, i32, u32);
 
-/// Drawn numbers, from a seed on.
+/// Pseudorandom numbers from a seed.
 #[derive(Drop)]
 struct Draw(u32);
 
 impl Draw {
-    /// A number below the bound; 0 where that is 0.
+    /// A number below the bound; 0 if the bound is 0.
     fn below(&mut self, bound: u16) -> u16 {
         self.0 = self.0.wrapping_mul(1_664_525).wrapping_add(1_013_904_223);
         if bound == 0 {
@@ -30,9 +30,11 @@ impl Draw {
 /// A network with a map that meets it.
 #[derive(Drop)]
 pub(crate) struct Drawn {
-    // The map meets each arc.
+    // The period of the network.
     pub(crate) period: Period,
+    // Arcs that the map meets.
     pub(crate) arcs: Vec<Arc>,
+    // The residue of each node.
     pub(crate) map: Vec<u16>,
 }
 
@@ -57,7 +59,7 @@ pub(crate) fn residue(map: &[u16], node: usize) -> i32 {
     }
 }
 
-/// An arc between two of the nodes that the map meets.
+/// An arc between two nodes that the map meets.
 fn drawn_arc(rt: &impl Abort, draw: &mut Draw, period: u16, map: &[u16]) -> Arc {
     let nodes = map.len().min(1_000) as u16;
     let from = usize::from(draw.below(nodes));
@@ -105,7 +107,7 @@ fn slack_at(period: Period, map: &[u16], arc: &Arc) -> u16 {
     slack.rem_euclid(i32::from(period.get())) as u16
 }
 
-/// What a map is charged with.
+/// The charge of a map.
 pub(crate) fn charge_of(period: Period, arcs: &[Arc], map: &[u16]) -> Charge {
     let mut charge = Charge { excess: 0, cost: 0 };
     for arc in arcs {
@@ -119,7 +121,7 @@ pub(crate) fn charge_of(period: Period, arcs: &[Arc], map: &[u16]) -> Charge {
     charge
 }
 
-/// The slacks of a map, in parts.
+/// The slacks of a map, in units of 1 / 65,536.
 fn parts_of(alloc: Global, period: Period, arcs: &[Arc], map: &[u16]) -> Result<Vec<i64>, Memory> {
     let mut slacks = Vec::new(alloc);
     for arc in arcs {
@@ -163,7 +165,7 @@ fn map_has_the_slacks(rt: HostRuntime) {
     }
 }
 
-/// What a map is charged with once it is polished, and how much of the work is left.
+/// The charge of a map once it is polished, and the remaining work.
 fn polished(
     rt: &(impl Abort + AllocGlobal),
     drawn: &Drawn,
@@ -188,7 +190,7 @@ pub(crate) fn zeros_of(rt: &(impl Abort + AllocGlobal), drawn: &Drawn) -> Vec<u1
     zeros.ok().expect(rt, "memory")
 }
 
-/// Whether the drawn map is still met when it is polished, and one is found from all at 0.
+/// Whether the random map is still met after polishing, and a feasible map is found from residues 0.
 fn is_met(rt: &(impl Abort + AllocGlobal), drawn: &Drawn) -> bool {
     let zeros = zeros_of(rt, drawn);
     let (kept, _left) = polished(rt, drawn, &drawn.map, MUCH);
@@ -200,7 +202,7 @@ fn is_met(rt: &(impl Abort + AllocGlobal), drawn: &Drawn) -> bool {
     found.excess == 0
 }
 
-/// Of how many drawn networks a map is found that meets them.
+/// The number of random networks for which a feasible map is found.
 fn count_met(rt: &(impl Abort + AllocGlobal), period: u16, nodes: u32, arcs: u32) -> u32 {
     let mut count: u32 = 0;
     for seed in 0..100 {

@@ -1,4 +1,4 @@
-//! What searches find in drawn networks, and first maps of a few networks by hand.
+//! Local searches of random networks, and first maps of a few small ones.
 
 use crate::maps::examples::{
     Drawn, Line, arc_of, charge_of, draw_network, period_of, residue, zeros_of,
@@ -6,7 +6,7 @@ use crate::maps::examples::{
 use pesp_search_maps::{Charge, LocalSearch, first_map};
 use std::process::Abort;
 
-/// The search from all at 0, or from the drawn map.
+/// The search from residues 0, or from the random map.
 fn search_of(rt: &(impl Abort + AllocGlobal), drawn: &Drawn, is_met: bool) -> LocalSearch {
     let zeros = zeros_of(rt, drawn);
     let map = if is_met { &drawn.map } else { &zeros };
@@ -21,13 +21,13 @@ fn search_of(rt: &(impl Abort + AllocGlobal), drawn: &Drawn, is_met: bool) -> Lo
     search.ok().expect(rt, "memory")
 }
 
-/// By how much a charge is above another one.
+/// The difference of two charges.
 fn above(charge: Charge, other: Charge) -> (i64, i64) {
     let excess = charge.excess.wrapping_sub(other.excess);
     (excess, charge.cost.wrapping_sub(other.cost))
 }
 
-/// Goes on by so much work, in pieces; tells what the map is charged with.
+/// Searches for this amount of work, in pieces, and returns the charge of the map.
 fn advance(
     rt: &(impl Abort + AllocGlobal),
     drawn: &Drawn,
@@ -46,7 +46,7 @@ fn advance(
     }
     let found = charge_of(drawn.period, &drawn.arcs, search.best());
     assert!(rt; found <= start, "{start:?} became {found:?}");
-    // A loop is charged with the same at each map.
+    // A loop has the same charge at each map.
     assert_eq!(rt;
         above(found, start),
         above(search.charge(), said),
@@ -56,7 +56,7 @@ fn advance(
     found
 }
 
-/// Whether a map that meets all is found, and the drawn one is kept met.
+/// Whether a feasible map is found, and the random one stays feasible.
 fn is_met(rt: &(impl Abort + AllocGlobal), drawn: &Drawn) -> bool {
     let mut kept = search_of(rt, drawn, true);
     let charge = advance(rt, drawn, &mut kept, 1, 20_000);
@@ -85,7 +85,7 @@ fn small_networks_are_met(rt: HostRuntime) {
     assert_all_met(&rt, 1_440, 6, 9);
 }
 
-/// The same map is found in pieces of any size.
+/// Asserts that pieces of any size lead to the same map.
 fn assert_alike(rt: &(impl Abort + AllocGlobal), drawn: &Drawn, pieces: u64, piece: u64) {
     let mut one = search_of(rt, drawn, false);
     let mut other = search_of(rt, drawn, false);
@@ -144,7 +144,7 @@ fn odd_beginnings(rt: HostRuntime) {
     assert_left(&rt, short.ok().expect(&rt, "memory"), &[7, 0, 3]);
 }
 
-/// Where no arc can cost less the work is left.
+/// Asserts that work is left over if no arc can cost less.
 fn assert_left(rt: &(impl Abort + AllocGlobal), mut search: LocalSearch, wanted: &[u16]) {
     let mut work = 1_000;
     search

@@ -1,4 +1,4 @@
-//! What is made and polished of a few networks by hand, at period ten.
+//! Maps computed and polished for a few small networks, at period ten.
 
 use crate::maps::examples::{Line, arc_of, period_of};
 use pesp_search_graph::Arc;
@@ -16,7 +16,7 @@ fn arcs_of(rt: &(impl Abort + AllocGlobal), lines: &[Line]) -> Vec<Arc> {
 /// A circle of three nodes, and a node without arcs.
 const CIRCLE: &[Line] = &[(0, 1, 2, 8, 1), (1, 2, 3, 9, 5), (0, 2, 1, 7, 9)];
 
-/// Of slacks in parts, the origin, the map that is made, and what it shows.
+/// Slacks in units of 1 / 65,536, the origin, the resulting map, and what the case shows.
 type Made = (&'static [i64], Option<usize>, &'static [u16], &'static str);
 
 const MADE: &[Made] = &[
@@ -87,14 +87,13 @@ fn maps_of_slacks(rt: HostRuntime) {
     }
 }
 
-/// Arcs, a map, the origin, the work, and the map in the end.
+/// Arcs, a map, the origin, the work, and the resulting map.
 type Polished = (&'static [Line], [u16; 4], Option<usize>, u64, [u16; 4]);
 
 /// Two parts of one arc each.
 const PARTS: &[Line] = &[(0, 1, 3, 5, 2), (2, 3, 4, 4, 0)];
 
-/// From the origin a window of one residue, and a dear way on; a loop, and an arc to a node that is
-/// not there.
+/// A window of one residue from the origin, and a costly arc on; a loop, and an arc to an unknown node.
 const HELD: &[Line] = &[
     (0, 1, 4, 4, 0),
     (1, 2, 2, 9, 3),
@@ -102,7 +101,7 @@ const HELD: &[Line] = &[
     (1, 9, 1, 2, 3),
 ];
 
-/// A circle in which one arc has to take what is left, and the light one does.
+/// A circle in which one arc has to take the remaining slack, and the light one does.
 const LIGHT: &[Line] = &[(0, 1, 3, 9, 5), (1, 2, 3, 9, 4), (2, 0, 3, 9, 1)];
 
 const POLISHED: &[Polished] = &[

@@ -1,4 +1,4 @@
-//! Which pieces of a network are searched, each for itself.
+//! The pieces of a network that are searched separately.
 
 use crate::network::recorder::Recorder;
 use crate::networks::{BRIDGE, CHAIN, Line, Row, THREE_PARTS, TWO_CYCLES, network_of};
@@ -9,7 +9,7 @@ use std::process::Abort;
 /// The ends of an arc.
 type Ends = (usize, usize);
 
-/// What is searched, in turn, by the ends of the arcs.
+/// The searched networks in order, by the ends of their arcs.
 type Pieces<'a> = &'a [&'static [Ends]];
 
 fn assert_pieces(
@@ -45,10 +45,10 @@ const SECOND: &[Ends] = &[(3, 4), (4, 5), (5, 3)];
 
 const THIRD: &[Ends] = &[(6, 7), (6, 7), (7, 8), (8, 6)];
 
-/// The second one of `TWO_CYCLES`; its first is `FIRST`.
+/// The second cycle of `TWO_CYCLES`; its first is `FIRST`.
 const ANOTHER: &[Ends] = &[(2, 3), (3, 4), (4, 2)];
 
-/// The first cycle of `BRIDGE` with the arc to the second one.
+/// The first cycle of `BRIDGE`, with the arc to the second one.
 const WITH_BRIDGE: &[Ends] = &[(0, 1), (1, 2), (2, 0), (2, 3)];
 
 /// All of `CHAIN`.

@@ -1,4 +1,4 @@
-//! Reduced networks, whose least costs another program found, which tries all maps.
+//! Reduced networks, whose least costs were found by another program that tries all maps.
 
 ghost use Rattle.pesp_search_least.specs.Sums.{IsCandidate};
 ghost use Rattle.pesp_search_network.specs.Arcs.{IsCosted};
@@ -11,7 +11,7 @@ use pesp_search_network::{Network, Reduction};
 use std::alloc::Global;
 use std::process::Abort;
 
-/// The arcs of the square with two events that go with event 1 and with one another.
+/// The arcs of the square, with two events tied to event 1 and to each other.
 const TIED: &[Line] = &[
     (0, 1, 2, 9, 5),
     (1, 2, 2, 4, 3),
@@ -25,7 +25,7 @@ const TIED: &[Line] = &[
     (5, 2, 1, 8, 1),
 ];
 
-/// A least map of a network, below the cap.
+/// A map of least cost below the cap.
 fn found(rt: &impl Abort, alloc: Global, network: &Network, cap: u64) -> Candidate
     ensures { IsCandidate (IsCosted network.now) result }
 {
@@ -33,7 +33,7 @@ fn found(rt: &impl Abort, alloc: Global, network: &Network, cap: u64) -> Candida
     let mut budget = Budget::of(1_000_000);
     let mut cycles = ByCycles::new(alloc);
     let outcome = network.least(alloc, &mut cycles, limits, &mut budget);
-    // In a call of its own, so that a proof does not go through all its parts.
+    // A call of its own, so that proofs do not unfold all parts of the value.
     drop(cycles);
     match outcome.ok().expect(rt, "memory") {
         Outcome::Found(candidate) => candidate,
@@ -41,7 +41,7 @@ fn found(rt: &impl Abort, alloc: Global, network: &Network, cap: u64) -> Candida
     }
 }
 
-/// That the least map of the reduced network, lifted, costs this.
+/// Asserts that the lifted least map of the reduced network has this cost.
 fn try_lift(rt: &impl Abort, alloc: Global, network: &Network, reduction: &Reduction, cost: u64)
     requires { IsReduction network.now reduction.now }
 {
@@ -56,7 +56,7 @@ fn try_lift(rt: &impl Abort, alloc: Global, network: &Network, reduction: &Reduc
     );
 }
 
-/// How many events the reduced network has, and what the least map of both costs.
+/// Compares the number of events of the reduced network, and the least cost of both.
 fn try_reduced(
     rt: &(impl Abort + AllocGlobal),
     lines: &[Line],

@@ -1,4 +1,4 @@
-//! A method that notes which networks it is asked for.
+//! A method that records the networks that it is called for.
 
 use pesp_base::Memory;
 use pesp_search_cycles::ByCycles;
@@ -6,12 +6,12 @@ use pesp_search_least::{Budget, Limits, Outcome};
 use pesp_search_network::{Method, Network};
 use std::alloc::Global;
 
-/// The search by cycles, which notes the arcs of each network that it searches.
+/// The search by cycles, which records the arcs of each network.
 #[derive(Drop)]
 pub(crate) struct Recorder {
     // Does the searches.
     pub(crate) cycles: ByCycles,
-    // Of each network, in turn, the ends of its arcs.
+    // For each network, in order, the ends of its arcs.
     pub(crate) searched: Vec<Vec<(usize, usize)>>,
 }
 

@@ -1,21 +1,21 @@
-//! Drawn problems, for tests.
+//! Random problems.
 
 use pesp_base::Memory;
 use pesp_search_simplex::{PARTS, Tableau, Term};
 use std::alloc::Global;
 
-/// How many given numbers a problem has, if it is small enough to try all whole ones.
+/// The number of given variables up to which all whole solutions are tried.
 const FEW: usize = 4;
 
-/// A source of drawn numbers.
+/// A pseudorandom generator.
 #[derive(Drop)]
 pub(crate) struct Draw {
-    // Goes on at each draw.
+    // Any number; each draw computes the next one from it.
     pub(crate) state: u64,
 }
 
 impl Draw {
-    /// A number from 0 on, below another one.
+    /// A number from 0 on, below `end`.
     pub(crate) fn below(&mut self, end: i64) -> i64 {
         self.state = self
             .state
@@ -26,16 +26,16 @@ impl Draw {
     }
 }
 
-/// Costs, rows and ranges.
+/// Costs, rows and ranges of a problem.
 #[derive(Drop)]
 pub(crate) struct Problem {
-    // Of the given numbers.
+    // The costs of the given variables.
     pub(crate) costs: Vec<u32>,
-    // The rates of each row, one for each given number.
+    // The coefficients of each row, one for each given variable.
     rates: Vec<i32>,
-    // Of the given numbers and then of the rows.
+    // The ranges of the given variables, then those of the rows.
     pub(crate) ranges: Vec<(i64, i64)>,
-    // A number in each range of a given number, near which most rows have their ranges.
+    // A value in the range of each given variable; most rows have their ranges near it.
     point: Vec<i64>,
 }
 
@@ -47,7 +47,7 @@ fn i64_at(list: &[i64], index: usize) -> i64 {
 }
 
 impl Problem {
-    /// So many given numbers, each up to 3 or less.
+    /// A problem with this number of given variables, each at most 3.
     pub(crate) fn drawn(alloc: Global, draw: &mut Draw, count: usize) -> Result<Problem, Memory> {
         let mut problem = Problem {
             costs: Vec::new(alloc),
@@ -69,12 +69,12 @@ impl Problem {
         Ok(problem)
     }
 
-    /// How many numbers are given.
+    /// The number of given variables.
     pub(crate) fn given(&self) -> usize {
         self.costs.len()
     }
 
-    /// How many rows there are.
+    /// The number of rows.
     pub(crate) fn rows(&self) -> usize {
         self.ranges.len().saturating_sub(self.given())
     }
@@ -109,7 +109,7 @@ impl Problem {
         }
     }
 
-    /// Adds a row, here and in the tableau. One in eight is away from the point.
+    /// Adds a row, here and in the tableau. One in eight has its range away from the point.
     pub(crate) fn push_row(
         &mut self,
         alloc: Global,
@@ -138,7 +138,7 @@ impl Problem {
         Ok(())
     }
 
-    /// The lower bound that multipliers of the rows give, in parts of the scale.
+    /// The lower bound from multipliers of the rows, in units of 1 / `scale`.
     pub(crate) fn bound(&self, multipliers: &[i64], scale: i64) -> i64 {
         let mut bound: i64 = 0;
         for number in 0..self.given() {
@@ -156,7 +156,7 @@ impl Problem {
         bound
     }
 
-    /// The least cost of whole numbers, if there are any; none where there are too many to try.
+    /// The least cost of a whole solution, if there is one; none if there are too many to try.
     pub(crate) fn least_whole(&self) -> Option<i64> {
         let mut best: Option<i64> = None;
         if FEW < self.given() {
@@ -172,7 +172,7 @@ impl Problem {
         best
     }
 
-    /// The cost of a code's digits over four, if they are in their ranges.
+    /// The cost of the solution whose values are the base-4 digits of a code, if they are in their ranges.
     fn whole_cost(&self, code: i64) -> Option<i64> {
         let mut cost: i64 = 0;
         for number in 0..self.given() {
@@ -210,7 +210,7 @@ fn least(rate: i64, range: (i64, i64)) -> i64 {
     rate.wrapping_mul(range.0).min(rate.wrapping_mul(range.1))
 }
 
-/// The multipliers of all rows: for the bound, or after `Empty` those that refute.
+/// The multipliers of all rows: for the bound, or after `Empty` for the refutation.
 fn multipliers(
     alloc: Global,
     problem: &Problem,
@@ -231,7 +231,7 @@ fn multipliers(
     Ok(all)
 }
 
-/// Whether a number is out of its range by more than an 2048th.
+/// Whether a variable is out of its range by more than 1 / 2,048.
 fn is_out(problem: &Problem, tableau: &Tableau, number: usize) -> bool {
     let value = tableau.value(number);
     let range = problem.range(number);
@@ -239,7 +239,7 @@ fn is_out(problem: &Problem, tableau: &Tableau, number: usize) -> bool {
         || range.1.wrapping_mul(PARTS).wrapping_add(32) < value
 }
 
-/// What is wrong after `Least`.
+/// The fault after `Least`, if there is one.
 pub(crate) fn fault_of_least(
     alloc: Global,
     problem: &Problem,
@@ -255,7 +255,7 @@ pub(crate) fn fault_of_least(
         }
         cost = cost.wrapping_add(problem.cost(number).wrapping_mul(tableau.value(number)));
     }
-    // Values are in parts of 2^16, and multipliers in parts of 2^24.
+    // Values have 16 bits after the point, and multipliers 24.
     if 65_536 < cost.wrapping_mul(256).abs_diff(bound) {
         return Ok(Some("the bound is not the cost"));
     }
@@ -265,7 +265,7 @@ pub(crate) fn fault_of_least(
     }
 }
 
-/// What is wrong after `Empty`.
+/// The fault after `Empty`, if there is one.
 pub(crate) fn fault_of_empty(
     alloc: Global,
     problem: &Problem,

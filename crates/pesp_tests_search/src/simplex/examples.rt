@@ -1,11 +1,11 @@
-//! What the simplex says of one problem and of drawn ones.
+//! Results of the simplex on one problem and on random ones.
 
 use crate::simplex::drawn::{Draw, Problem, fault_of_empty, fault_of_least};
 use pesp_base::Memory;
 use pesp_search_simplex::{End, PARTS, Tableau, Term};
 use std::alloc::Global;
 
-/// Twice the first number, up to 4, and the second one, up to 8, are to be 11 to 16 together.
+/// Twice the first variable, up to 4, plus the second one, up to 8, is to be 11 to 16.
 fn two_numbers(alloc: Global) -> Result<Tableau, Memory> {
     let mut tableau = Tableau::new(alloc, &[2, 3])?;
     tableau.set_range(0, 0, 4);
@@ -50,15 +50,16 @@ fn calls(rt: HostRuntime) {
     assert_eq!(&rt; tableau.work(), work, "the copy works for itself");
 }
 
-/// How many problems ended in which way.
+/// The number of problems that ended in each way.
 #[derive(Drop)]
 struct Seen {
-    // They only grow.
+    // Problems with an optimum.
     least: u32,
+    // Infeasible problems.
     empty: u32,
 }
 
-/// Solves, and says what is wrong with what is found.
+/// Solves, and returns the fault of the result, if there is one.
 fn fault(
     alloc: Global,
     problem: &Problem,
@@ -79,7 +80,7 @@ fn fault(
     }
 }
 
-/// A range is made one end, and then what it was.
+/// Restricts a range to one end, and restores it; solves after each change.
 fn fault_after_change(
     alloc: Global,
     draw: &mut Draw,
@@ -101,8 +102,7 @@ fn fault_after_change(
     Ok(None)
 }
 
-/// Pushes rows, changes ranges, and now and then goes on from a copy without entries, which begins again with the same basic
-/// numbers; solves after each.
+/// Pushes rows, changes ranges, and sometimes continues from a copy without entries; solves after each step.
 fn fault_of_drawn(
     alloc: Global,
     draw: &mut Draw,

@@ -13,7 +13,7 @@ returns-in-Ok-clause-priced g c =
     let made : edited I (edit_of c.args.trial.now) ≡ Ok (g.K.Keeper.network c.apply.new.self) = rw c.edit-edit.ensures at c.in_ok-apply.ensures.ok in
     let after : g.K.Keeper.network c.apply.new.self ≡ effect I (edit_of c.args.trial.now) = effect_is I _ (edit_of c.args.trial.now) made in
     let same : c.is_within-is_within.result ≡ is_within I c.args.trial.now = c.is_within-is_within.ensures ∙ ap (λ J. is_within J c.args.trial.now) c.instance-instance.ensures in
-    record { within = λ is. rw after at (c.in-Ok.ensures.within (same ∙ is)); outside = λ is. c.in-Ok.ensures.outside (same ∙ is) }
+    record { accepted = made ∙ ap Ok after; within = λ is. rw after at (c.in-Ok.ensures.within (same ∙ is)); outside = λ is. c.in-Ok.ensures.outside (same ∙ is) }
 
 pub returns-in-Ok-clause-network : goal.returns-in-Ok-clause-network
 returns-in-Ok-clause-network g c =

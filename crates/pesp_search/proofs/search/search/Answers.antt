@@ -31,7 +31,7 @@ returns-then-has_empty_row-clause-known g c =
     let I = g.K.Keeper.network c.args.keeper.now in
     let network = rw c.instance.ensures at c.events_of.ensures.network in
     let dead : IsDeadEnd I [] = dead_of_empty I (g.K.Keeper.pushes c.args.keeper.now) c.requires.pushes (c.has_empty_row.ensures.dead c.if-has_empty_row.true) in
-    rw (c.known.ensures.best, c.known.ensures.bound, c.known.ensures.stopped)
+    rw (c.known_of.ensures.best, c.known_of.ensures.bound, c.known_of.ensures.stopped)
     (known_of_end I c.args.ask.bound c.args.ask.limit None _ (dead_outcome I c.args.ask.bound c.args.ask.limit network dead) (λ m member. absurd (no_member I m network dead member)))
 
 pub returns-then-has_empty_row-clause-nodes : goal.returns-then-has_empty_row-clause-nodes

@@ -28,7 +28,7 @@ returns-then-sought-clause-known g c =
     let sought = c.in_ok-sought.sought in
     let end = subst (λ b. IsSought I c.args.ask.bound b sought.best) c.if-sought.true c.in_ok-sought.ensures.sought in
     let outcome = ended_outcome I c.args.ask.bound c.args.ask.limit sought.best end (λ zero. false≢true (sym (c.in_ok-sought.ensures.none zero).0 ∙ c.if-sought.true)) in
-    rw (c.known.ensures.best, c.known.ensures.bound, c.known.ensures.stopped) (known_of_end I c.args.ask.bound c.args.ask.limit sought.best sought.floor outcome c.in_ok-sought.ensures.floor)
+    rw (c.known_of.ensures.best, c.known_of.ensures.bound, c.known_of.ensures.stopped) (known_of_end I c.args.ask.bound c.args.ask.limit sought.best sought.floor outcome c.in_ok-sought.ensures.floor)
 
 pub returns-then-sought-clause-nodes : goal.returns-then-sought-clause-nodes
 returns-then-sought-clause-nodes g c = no_nodes (g.K.Keeper.network c.args.keeper.now)

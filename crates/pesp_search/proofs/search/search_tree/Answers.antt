@@ -27,9 +27,9 @@ returns-clause-known g c =
     let told = outcome_told I c.args.ask.bound c.args.ask.limit sought.best outcome.best outcome.is_stopped outcome.nodes c.requires.found c.requires.none run in
     let is : IsOutcome I c.args.ask.bound c.args.ask.limit outcome.is_stopped c.best_told-best.result outcome.nodes = rw c.best_told-best.ensures told in
     record {
-      outcome = rw (c.known.ensures.best, c.known.ensures.stopped) is;
-      floor = rw c.known.ensures.bound (floor_told I c.args.ask.bound c.args.ask.limit outcome.is_stopped c.best_told-best.result sought.floor outcome.nodes c.requires.floor is);
-      exact = rw (c.known.ensures.best, c.known.ensures.bound, c.known.ensures.stopped) (exact_told outcome.is_stopped c.best_told-best.result sought.floor);
+      outcome = rw (c.known_of.ensures.best, c.known_of.ensures.stopped) is;
+      floor = rw c.known_of.ensures.bound (floor_told I c.args.ask.bound c.args.ask.limit outcome.is_stopped c.best_told-best.result sought.floor outcome.nodes c.requires.floor is);
+      exact = rw (c.known_of.ensures.best, c.known_of.ensures.bound, c.known_of.ensures.stopped) (exact_told outcome.is_stopped c.best_told-best.result sought.floor);
     }
 
 pub returns-clause-nodes : goal.returns-clause-nodes

@@ -15,8 +15,8 @@ loop-index-preserved c =
     let before : length parts ≡ length arcs = c.requires in
     let here : i < length arcs = c.loop-index-test.true in
     let arc = c.index-arcs-index.result in
-    let told : c.weighing-arc.result ≡ kept (f (get_or parts i 0)) (get_or arcs i arc) = c.weighing-arc.ensures ∙ ap (kept (f (get_or parts i 0))) c.index-arcs-index.is in
-    let pushed : c.push.new.self.items ≡ c.loop-index.of_part.items ++ c.weighing-arc.result ∷ [] = search rules in
+    let told : c.weigh-arc.result ≡ kept (f (get_or parts i 0)) (get_or arcs i arc) = c.weigh-arc.ensures ∙ ap (kept (f (get_or parts i 0))) c.index-arcs-index.is in
+    let pushed : c.push.new.self.items ≡ c.loop-index.of_part.items ++ c.weigh-arc.result ∷ [] = search rules in
     pushed ∙ ap₂ (λ (l : List Arc) (a : Arc). l ++ a ∷ []) c.loop-index.invariant told ∙ sym (weighed_more f parts arcs i arc before here)
 
 pub returns : goal.returns

@@ -7,4 +7,4 @@ use Rattle.pesp_shell_commands.proofs.parsing.command.Goals as goal
 
 pub returns-in-Some : goal.returns-in-Some
 returns-in-Some c =
-    ap as_said c.said.ensures ∙ said_after (texts c.args.words.now) c.in-Some.name c.in-Some.numbers c.in-Some.ensures.numbers c.in-Some.ensures.form
+    ap as_said c.command_named.ensures ∙ said_after (texts c.args.words.now) c.in-Some.name c.in-Some.numbers c.in-Some.ensures.numbers c.in-Some.ensures.form

@@ -23,7 +23,7 @@ invariant_of-self-then-not-is_kept g c =
     in (
       subst (λ n. IsState after (g.K.Keeper.pushes c.apply.new.self) n c.forget.new.known) (sym c.clear_dropped.ensures)
           (after_edit before after c.args.edit.now (g.K.Keeper.pushes c.self.inside.keeper) (g.K.Keeper.pushes c.apply.new.self) c.self.inside.times c.self.inside.known c.forget.new.known c.self.invariant.0 network c.in_ok-apply.ensures.ok c.apply.ensures.pushes kept),
-      costed_then _ _ _ c.self.inside.times _ c.args.edit.now _ _ c.instance-2.ensures c.edited-kept.ensures c.in_ok-apply.ensures.ok c.clear_dropped.ensures,
+      costed_then _ _ _ c.self.inside.times _ c.args.edit.now _ _ c.instance-2.ensures c.after_edit-kept.ensures c.in_ok-apply.ensures.ok c.clear_dropped.ensures,
     )
 
 pub invariant_of-self-else-not-is_kept : goal.invariant_of-self-else-not-is_kept
@@ -39,5 +39,5 @@ invariant_of-self-else-not-is_kept g c =
     in (
       subst (λ n. IsState after (g.K.Keeper.pushes c.apply.new.self) n c.self.inside.known) (sym c.clear_dropped.ensures)
           (after_edit before after c.args.edit.now (g.K.Keeper.pushes c.self.inside.keeper) (g.K.Keeper.pushes c.apply.new.self) c.self.inside.times c.self.inside.known c.self.inside.known c.self.invariant.0 network c.in_ok-apply.ensures.ok c.apply.ensures.pushes kept),
-      costed_then _ _ _ c.self.inside.times _ c.args.edit.now _ _ c.instance-2.ensures c.edited-kept.ensures c.in_ok-apply.ensures.ok c.clear_dropped.ensures,
+      costed_then _ _ _ c.self.inside.times _ c.args.edit.now _ _ c.instance-2.ensures c.after_edit-kept.ensures c.in_ok-apply.ensures.ok c.clear_dropped.ensures,
     )

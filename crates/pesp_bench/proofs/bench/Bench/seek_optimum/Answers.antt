@@ -29,5 +29,5 @@ pub returns-clause-ok : goal.returns-clause-ok
 returns-clause-ok g c =
     let I : Network = g.K.Keeper.network c.self.inside.keeper in
     let end = ended I c.candidate_cost-bound.result c.args.limit c.in-Ok.nodes c.in-Ok.known.is_stopped c.in-Ok.known.best c.in-Ok.ensures.known.outcome c.if-is_stopped.false in
-    sought_end c.args.self.now.instance I _ c.args.limit c.answer_of-answer.result c.done-sought.result (ap (λ (s : State). s.instance) c.self.view_is)
-    c.known_after.ensures.network refl end.1 (c.answer_of-answer.ensures I end.0) c.done-sought.ensures
+    sought_end c.args.self.now.instance I _ c.args.limit c.answer_of-answer.result c.from_answer-sought.result (ap (λ (s : State). s.instance) c.self.view_is)
+    c.known_after.ensures.network refl end.1 (c.answer_of-answer.ensures I end.0) c.from_answer-sought.ensures

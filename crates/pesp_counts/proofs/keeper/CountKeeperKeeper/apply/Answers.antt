@@ -18,8 +18,8 @@ use Rattle.pesp_counts.proofs.Worked.{work_is}
 use Rattle.pesp_counts.proofs.keeper.CountKeeperKeeper.apply.Goals as goal
 use Rattle.pesp_counts.proofs.keeper.CountKeeperKeeper.apply.Goals.{After-clear, in-AddEvent, in-AddActivity, in_default}
 
-pub of-change-requires : goal.of-change-requires
-of-change-requires c = c.self.invariant.settled.fits.stand
+pub from_edit-change-requires : goal.from_edit-change-requires
+from_edit-change-requires c = c.self.invariant.settled.fits.stand
 
 -- the edit finds the domains of the instance before it, and room for what it puts back
 start : (c : After-clear) → WereSettled c.self.inside.instance c.apply.new.self c.args.edit.now c.self.inside.counted.links c.forget.new.self × HaveRoom c.forget.new.self (vec_capacity c.clear.new.self) (vec_capacity c.self.inside.counted.restored)
@@ -41,7 +41,7 @@ pub follow-requires-clause-adds : goal.follow-requires-clause-adds
 follow-requires-clause-adds c = not_adds c.args.edit.now c.in_default.not-AddEvent c.in_default.not-AddActivity
 
 pub follow-requires-clause-before : goal.follow-requires-clause-before
-follow-requires-clause-before c = (c.self.inside.instance, (start c.before.before.before).0, c.of-change.ensures c.apply.new.self c.in_ok-apply.ensures.ok)
+follow-requires-clause-before c = (c.self.inside.instance, (start c.before.before.before).0, c.from_edit-change.ensures c.apply.new.self c.in_ok-apply.ensures.ok)
 
 pub follow-requires-clause-room : goal.follow-requires-clause-room
 follow-requires-clause-room c = (start c.before.before.before).1.back
@@ -68,7 +68,7 @@ facts c =
           )
       | in_default w ↦
           let a = w.follow in
-          rw w.self-inside-is (were, a.ensures.followed I (c.of-change.ensures c.apply.new.self c.in_ok-apply.ensures.ok) were, rw (a.ensures.room, a.ensures.restored) (room_same s a.new.counted.supports (vec_capacity c.clear.new.self) (vec_capacity i.counted.restored) a.ensures.shape kept))
+          rw w.self-inside-is (were, a.ensures.followed I (c.from_edit-change.ensures c.apply.new.self c.in_ok-apply.ensures.ok) were, rw (a.ensures.room, a.ensures.restored) (room_same s a.new.counted.supports (vec_capacity c.clear.new.self) (vec_capacity i.counted.restored) a.ensures.shape kept))
     ]
 
 pub number_pairs-requires : goal.number_pairs-requires

@@ -17,7 +17,7 @@ pub loop-number-init : goal.loop-number-init
 loop-number-init c =
     let start = c.args.self.now in
     let links = c.args.links.now in
-    let all = c.into_iter-number-iterator.ensures.into_iter_gives ∙ c.at-number-items.ensures in
+    let all = c.into_iter-number-iterator.ensures.into_iter_gives ∙ c.ends_at-number-items.ensures in
     record {
       can_next = tt;
       is_finite = tt;

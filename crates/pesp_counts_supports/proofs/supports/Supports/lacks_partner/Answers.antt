@@ -31,14 +31,14 @@ loop-end-preserved c =
     c.count.ensures ∙ ap (λ (t : Supports). count_at t.period t.counts m r) same
     in
     let some : (count_at s.period s.counts m r == 0) ≡ false = ne_eqb _ 0 (λ none. c.if-count-eq0.false (count ∙ none)) in
-    let few : c.over.new.probes ≤ inside.probes + 1 = let one = at_most inside.probes (r + 1 - r) most_probes c.over.new.probes c.over.ensures.counted in omega (arith, one) in
+    let few : c.probe_range.new.probes ≤ inside.probes + 1 = let one = at_most inside.probes (r + 1 - r) most_probes c.probe_range.new.probes c.probe_range.ensures.counted in omega (arith, one) in
     let probes : inside.probes ≡ c.loop-end.self.probes = ap (λ (t : Supports). t.probes) c.self.view_is in
     record {
       can = tt;
       finite = tt;
       listed = λ k i. inv.listed k (subst (λ xs. Contains xs k) (sym c.in-Some.ensures.steps) (there k m rest i));
       lacks = inv.lacks ∙ ap (list_any (λ k. count_at s.period s.counts k r == 0)) c.in-Some.ensures.steps ∙ rw some refl;
-      same = ap (λ (t : Supports). record { period = t.period; counts = t.counts; counted = t.counted; rows = t.rows; trail = t.trail; room = t.room; sums = t.sums; probes = c.over.new.probes }) same;
-      counts_on = omega (arith, probes, inv.counts_on, c.over.ensures.counted);
+      same = ap (λ (t : Supports). record { period = t.period; counts = t.counts; counted = t.counted; rows = t.rows; trail = t.trail; room = t.room; sums = t.sums; probes = c.probe_range.new.probes }) same;
+      counts_on = omega (arith, probes, inv.counts_on, c.probe_range.ensures.counted);
       probes = omega (arith, few, probes, inv.probes, ap length c.in-Some.ensures.steps);
     }

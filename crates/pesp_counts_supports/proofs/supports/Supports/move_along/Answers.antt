@@ -13,14 +13,14 @@ end-near-requires c = (c.requires.fit.linked.each c.requires.listed.0 c.args.num
 pub end-far-requires : goal.end-far-requires
 end-far-requires c = (end_known _ _ c.requires.fit _ _ c.requires.listed.1 _ c.end-near.ensures).1.within
 
-pub touched-ranges-requires-clause-first : goal.touched-ranges-requires-clause-first
-touched-ranges-requires-clause-first c =
+pub touched_ranges-ranges-requires-clause-first : goal.touched_ranges-ranges-requires-clause-first
+touched_ranges-ranges-requires-clause-first c =
     let known = end_known _ _ c.requires.fit _ _ c.requires.listed.1 _ c.end-near.ensures in
     let period = c.get.ensures.value ∙ ap (λ (s : Supports). s.period) c.self.view_is in
     rw (c.end-near.ensures, period) known.0.first
 
-pub touched-ranges-requires-clause-width : goal.touched-ranges-requires-clause-width
-touched-ranges-requires-clause-width c =
+pub touched_ranges-ranges-requires-clause-width : goal.touched_ranges-ranges-requires-clause-width
+touched_ranges-ranges-requires-clause-width c =
     let known = end_known _ _ c.requires.fit _ _ c.requires.listed.1 _ c.end-near.ensures in
     let period = c.get.ensures.value ∙ ap (λ (s : Supports). s.period) c.self.view_is in
     rw (c.end-near.ensures, period) known.0.width
@@ -53,8 +53,8 @@ pub move_range-requires-2-clause-can : goal.move_range-requires-2-clause-can
 move_range-requires-2-clause-can c =
     let start = c.args.self.now in
     let same = c.move_range.ensures.only.same in
-    let w = c.touched-ranges.result in
-    let touched = c.touched-ranges.ensures in
+    let w = c.touched_ranges-ranges.result in
+    let touched = c.touched_ranges-ranges.ensures in
     let (D, is, can) = c.requires.can in
     let are = sums_of start.period c.args.moved start.sums D is in
     let top : w.start ≤ start.period = omega (arith, touched.order, touched.below, c.get.ensures.value, ap (λ (s : Supports). s.period) c.self.view_is) in
@@ -66,9 +66,9 @@ returns-clause-moved c D is =
     let start = c.args.self.now in
     let mid = c.move_range.new.self in
     let links = c.args.links.now in
-    let w = c.touched-ranges.result in
+    let w = c.touched_ranges-ranges.result in
     let near = c.end-near.result in
-    let touched = c.touched-ranges.ensures in
+    let touched = c.touched_ranges-ranges.ensures in
     let same = ap (λ (s : Supports). s.period) c.move_range.ensures.only.same in
     let are = sums_of start.period c.args.moved start.sums D is in
     let again = c.move_range-2.ensures.moved D (rw (same, ap (λ (s : Supports). s.sums) c.move_range.ensures.only.same) are) in

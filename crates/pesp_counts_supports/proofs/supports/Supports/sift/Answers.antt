@@ -16,6 +16,6 @@ returns-clause-rows c =
     let period : c.get.result ≡ start.period = c.get.ensures.value ∙ ap (λ (s : Supports). s.period) c.self.view_is in
     let clears : Clears c.args.place f 0 c.get.result start.rows after.rows =
     subst (λ (s : Supports). Clears c.args.place (λ r. count_at s.period s.counts c.args.end r == 0) 0 c.get.result s.rows after.rows) c.self.view_is
-    (rw c.over-residues.ensures.range at c.sift_range.ensures.rows)
+    (rw c.probe_range-residues.ensures.range at c.sift_range.ensures.rows)
     in
     clears_all c.args.place start.period f start.rows after.rows long (subst (λ n. Clears c.args.place f 0 n start.rows after.rows) period clears)

@@ -28,13 +28,13 @@ far c =
     let there = (c.requires.fit.linked.each c.requires.listed.0 c.args.number c.requires.listed.1).mate_there in
     subst (λ (x : End). (x.looks_at < length s.rows) × (x.mate * s.period + s.period ≤ length s.counts)) (sym c.end-end.ensures) (fit.rows e.looks_at e.mate there, fit.counts e.looks_at e.mate there)
 
-pub touched-ranges-requires-clause-first : goal.touched-ranges-requires-clause-first
-touched-ranges-requires-clause-first c =
+pub touched_ranges-ranges-requires-clause-first : goal.touched_ranges-ranges-requires-clause-first
+touched_ranges-ranges-requires-clause-first c =
     let at = c.requires.fit.linked.each c.requires.listed.0 c.args.number c.requires.listed.1 in
     omega (arith, at.first, ap (λ (e : End). e.first) c.end-end.ensures, c.get.ensures.value, ap (λ (s : Supports). s.period) c.self.view_is)
 
-pub touched-ranges-requires-clause-width : goal.touched-ranges-requires-clause-width
-touched-ranges-requires-clause-width c =
+pub touched_ranges-ranges-requires-clause-width : goal.touched_ranges-ranges-requires-clause-width
+touched_ranges-ranges-requires-clause-width c =
     let at = c.requires.fit.linked.each c.requires.listed.0 c.args.number c.requires.listed.1 in
     omega (arith, at.width, ap (λ (e : End). e.width) c.end-end.ensures, c.get.ensures.value, ap (λ (s : Supports). s.period) c.self.view_is)
 
@@ -58,12 +58,12 @@ returns-clause-rows c p r below =
     let s = c.args.self.now in
     let mid = c.sift_range.new.self in
     let keeps = c.sift_range.ensures.takes.keeps in
-    let w = c.touched-ranges.result in
+    let w = c.touched_ranges-ranges.result in
     let e = c.end-end.result in
     let f : ℕ → Bool = λ q. count_at s.period s.counts e.mate q == 0 in
     let then : Clears e.looks_at f 0 w.wrapped mid.rows c.sift_range-2.new.self.rows = rw (keeps.period, keeps.counts) at c.sift_range-2.ensures.rows in
     let both = clears_both e.looks_at f w s.rows mid.rows c.sift_range-2.new.self.rows c.sift_range.ensures.rows then p r in
     let period : c.get.result ≡ s.period = c.get.ensures.value ∙ ap (λ (x : Supports). x.period) c.self.view_is in
-    let touched : in_ranges w r ≡ is_touched s.period c.args.left e r = c.touched-ranges.ensures.touched r (omega (arith, below, period)) ∙ ap (λ n. is_touched n c.args.left e r) period in
+    let touched : in_ranges w r ≡ is_touched s.period c.args.left e r = c.touched_ranges-ranges.ensures.touched r (omega (arith, below, period)) ∙ ap (λ n. is_touched n c.args.left e r) period in
     subst (λ (x : End). has_at c.sift_range-2.new.self.rows p r ≡ (has_at s.rows p r && not (p == x.looks_at && is_touched s.period c.args.left x r && (count_at s.period s.counts x.mate r == 0)))) c.end-end.ensures
     (both ∙ ap (λ b. has_at s.rows p r && not (p == e.looks_at && b && f r)) touched)

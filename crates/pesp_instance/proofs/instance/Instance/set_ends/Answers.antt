@@ -9,32 +9,32 @@ use Rattle.pesp_instance.proofs.Rising.{number-with_number}
 use Rattle.pesp_instance.proofs.Relisted.{AreListed-moved, AreListed-same}
 use Rattle.pesp_instance.proofs.instance.Instance.set_ends.Goals as goal
 
-pub at-requires : goal.at-requires
-at-requires c = record { slot = (c.get.result, sym c.in-Some.ensures.slot) }
+pub value_at-requires : goal.value_at-requires
+value_at-requires c = record { slot = (c.get.result, sym c.in-Some.ensures.slot) }
 
 pub set-requires : goal.set-requires
 set-requires c =
     let there = sym c.in-Some.ensures.slot in
-    record { slot = rw (number-with_number (λ x. x.id) c.get.result c.self.inside.activities.values c.at.result.now (c.at.ensures c.get.result there)) there }
+    record { slot = rw (number-with_number (λ x. x.id) c.get.result c.self.inside.activities.values c.value_at.result.now (c.value_at.ensures c.get.result there)) there }
 
 pub invariant_of-self-2 : goal.invariant_of-self-2
 invariant_of-self-2 c =
-    let is : with_number (λ x. x.id) c.args.id c.self.inside.activities.values ≡ Some c.at.result.now = rw c.get.ensures.value at (c.at.ensures c.get.result (sym c.in-Some.ensures.slot)) in
+    let is : with_number (λ x. x.id) c.args.id c.self.inside.activities.values ≡ Some c.value_at.result.now = rw c.get.ensures.value at (c.value_at.ensures c.get.result (sym c.in-Some.ensures.slot)) in
     let change : Activity → Activity = λ x. record x { from = c.args.from; to = c.args.to } in
-    let same : c.set.new.self.values ≡ change_in (λ x. x.id) c.args.id change c.self.inside.activities.values = c.set.ensures ∙ changed-activities c.self.inside.activities.values c.args.id c.at.result.now is change c.self.invariant.network.activities_rise in
+    let same : c.set.new.self.values ≡ change_in (λ x. x.id) c.args.id change c.self.inside.activities.values = c.set.ensures ∙ changed-activities c.self.inside.activities.values c.args.id c.value_at.result.now is change c.self.invariant.network.activities_rise in
     let linked = on_ok c.link.result c.if-is_err.ensures.value c.link.ensures.ok in
     let from : has_event (network_in c.self.inside) c.args.from ≡ true = sym c.in-Some-event_slot.ensures.known in
     let to : has_event (network_in c.self.inside) c.args.to ≡ true = sym c.in-Some-event_slot-2.ensures.known in
     record {
       network = rw (same, c.unlink_old.ensures.kept.events, c.link.ensures.kept.events) (changed_activity (network_in c.self.inside) c.args.id change (λ x. refl) (λ x within. record { number = within.number; bounds = within.bounds; weight = within.weight }) (λ x ends. record { from = from; to = to }) c.self.invariant.network);
-      listed = rw same (AreListed-moved c.self.inside.activities.values c.self.inside.vertices.values c.link.new.self.values c.unlink_old.new.self.values c.args.id change c.at.result.now (λ x. refl) c.self.invariant.listed is linked c.unlink_old.ensures.listed);
+      listed = rw same (AreListed-moved c.self.inside.activities.values c.self.inside.vertices.values c.link.new.self.values c.unlink_old.new.self.values c.args.id change c.value_at.result.now (λ x. refl) c.self.invariant.listed is linked c.unlink_old.ensures.listed);
     }
 
 pub returns-clause-ok : goal.returns-clause-ok
 returns-clause-ok c =
-    let is : with_number (λ x. x.id) c.args.id c.self.inside.activities.values ≡ Some c.at.result.now = rw c.get.ensures.value at (c.at.ensures c.get.result (sym c.in-Some.ensures.slot)) in
+    let is : with_number (λ x. x.id) c.args.id c.self.inside.activities.values ≡ Some c.value_at.result.now = rw c.get.ensures.value at (c.value_at.ensures c.get.result (sym c.in-Some.ensures.slot)) in
     let change : Activity → Activity = λ x. record x { from = c.args.from; to = c.args.to } in
-    let same : c.set.new.self.values ≡ change_in (λ x. x.id) c.args.id change c.self.inside.activities.values = c.set.ensures ∙ changed-activities c.self.inside.activities.values c.args.id c.at.result.now is change c.self.invariant.network.activities_rise in
+    let same : c.set.new.self.values ≡ change_in (λ x. x.id) c.args.id change c.self.inside.activities.values = c.set.ensures ∙ changed-activities c.self.inside.activities.values c.args.id c.value_at.result.now is change c.self.invariant.network.activities_rise in
     let from : has_event (network_in c.self.inside) c.args.from ≡ true = sym c.in-Some-event_slot.ensures.known in
     let to : has_event (network_in c.self.inside) c.args.to ≡ true = sym c.in-Some-event_slot-2.ensures.known in
     rw (← c.self.view_is, is, from, to, same, c.unlink_old.ensures.kept.events, c.link.ensures.kept.events) refl

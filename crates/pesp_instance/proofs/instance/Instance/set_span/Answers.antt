@@ -8,19 +8,19 @@ use Rattle.pesp_instance.proofs.Rising.{number-with_number}
 use Rattle.pesp_instance.proofs.Relisted.{AreListed-change_in}
 use Rattle.pesp_instance.proofs.instance.Instance.set_span.Goals as goal
 
-pub at-activity-requires : goal.at-activity-requires
-at-activity-requires c = record { slot = (c.get.result, sym c.in-Some.ensures.slot) }
+pub value_at-activity-requires : goal.value_at-activity-requires
+value_at-activity-requires c = record { slot = (c.get.result, sym c.in-Some.ensures.slot) }
 
 pub set-requires : goal.set-requires
 set-requires c =
     let there = sym c.in-Some.ensures.slot in
-    record { slot = rw (number-with_number (λ x. x.id) c.get.result c.self.inside.activities.values c.at-activity.result.now (c.at-activity.ensures c.get.result there)) there }
+    record { slot = rw (number-with_number (λ x. x.id) c.get.result c.self.inside.activities.values c.value_at-activity.result.now (c.value_at-activity.ensures c.get.result there)) there }
 
 pub invariant_of-self : goal.invariant_of-self
 invariant_of-self c =
-    let is : with_number (λ x. x.id) c.args.id c.self.inside.activities.values ≡ Some c.at-activity.result.now = rw c.get.ensures.value at (c.at-activity.ensures c.get.result (sym c.in-Some.ensures.slot)) in
+    let is : with_number (λ x. x.id) c.args.id c.self.inside.activities.values ≡ Some c.value_at-activity.result.now = rw c.get.ensures.value at (c.value_at-activity.ensures c.get.result (sym c.in-Some.ensures.slot)) in
     let change : Activity → Activity = λ x. record x { span = c.args.span } in
-    let same : c.set.new.self.values ≡ change_in (λ x. x.id) c.args.id change c.self.inside.activities.values = c.set.ensures ∙ changed-activities c.self.inside.activities.values c.args.id c.at-activity.result.now is change c.self.invariant.network.activities_rise in
+    let same : c.set.new.self.values ≡ change_in (λ x. x.id) c.args.id change c.self.inside.activities.values = c.set.ensures ∙ changed-activities c.self.inside.activities.values c.args.id c.value_at-activity.result.now is change c.self.invariant.network.activities_rise in
     rw same (record {
       network = changed_activity (network_in c.self.inside) c.args.id change (λ x. refl) (λ x within. record { number = within.number; bounds = c.lower.ensures.limits; weight = within.weight }) (λ x ends. record { from = ends.from; to = ends.to }) c.self.invariant.network;
       listed = AreListed-change_in c.self.inside.activities.values c.self.inside.vertices.values c.args.id change (λ x. refl) (λ e x. refl) c.self.invariant.listed;
@@ -28,7 +28,7 @@ invariant_of-self c =
 
 pub returns-clause-ok : goal.returns-clause-ok
 returns-clause-ok c =
-    let is : with_number (λ x. x.id) c.args.id c.self.inside.activities.values ≡ Some c.at-activity.result.now = rw c.get.ensures.value at (c.at-activity.ensures c.get.result (sym c.in-Some.ensures.slot)) in
+    let is : with_number (λ x. x.id) c.args.id c.self.inside.activities.values ≡ Some c.value_at-activity.result.now = rw c.get.ensures.value at (c.value_at-activity.ensures c.get.result (sym c.in-Some.ensures.slot)) in
     let change : Activity → Activity = λ x. record x { span = c.args.span } in
-    let same : c.set.new.self.values ≡ change_in (λ x. x.id) c.args.id change c.self.inside.activities.values = c.set.ensures ∙ changed-activities c.self.inside.activities.values c.args.id c.at-activity.result.now is change c.self.invariant.network.activities_rise in
+    let same : c.set.new.self.values ≡ change_in (λ x. x.id) c.args.id change c.self.inside.activities.values = c.set.ensures ∙ changed-activities c.self.inside.activities.values c.args.id c.value_at-activity.result.now is change c.self.invariant.network.activities_rise in
     rw (← c.self.view_is, is, same) refl

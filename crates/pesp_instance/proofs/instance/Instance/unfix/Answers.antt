@@ -8,13 +8,13 @@ use Rattle.pesp_instance.proofs.Relisted.{AreListed-same}
 use Rattle.pesp_instance.proofs.Vertices.{window-with_number}
 use Rattle.pesp_instance.proofs.instance.Instance.unfix.Goals as goal
 
-pub at-requires : goal.at-requires
-at-requires c = record { slot = (c.args.event, sym c.in-Some.ensures.slot) }
+pub value_at-requires : goal.value_at-requires
+value_at-requires c = record { slot = (c.args.event, sym c.in-Some.ensures.slot) }
 
 pub returns-then-is_none-clause-err : goal.returns-then-is_none-clause-err
 returns-then-is_none-clause-err c =
     let has : has_event (network_in c.self.inside) c.args.event ≡ true = sym c.in-Some.ensures.known in
-    let is : window_of (network_in c.self.inside) c.args.event ≡ c.at.result.now.event.window = window-with_number c.args.event c.self.inside.vertices.values (Some c.at.result.now) (sym (c.at.ensures c.args.event (sym c.in-Some.ensures.slot))) in
+    let is : window_of (network_in c.self.inside) c.args.event ≡ c.value_at.result.now.event.window = window-with_number c.args.event c.self.inside.vertices.values (Some c.value_at.result.now) (sym (c.value_at.ensures c.args.event (sym c.in-Some.ensures.slot))) in
     let none : is_none (window_of (network_in c.self.inside) c.args.event) ≡ true = ap is_none is ∙ is_none-from _ false (c.is_none.ensures ∙ ap not c.if-is_none.true) in
     rw (← c.self.view_is) (inl (rw (has, none) refl))
 
@@ -32,7 +32,7 @@ invariant_of-self c =
 pub returns-clause-ok : goal.returns-clause-ok
 returns-clause-ok c =
     let has : has_event (network_in c.self.inside) c.args.event ≡ true = sym c.in-Some.ensures.known in
-    let is : window_of (network_in c.self.inside) c.args.event ≡ c.at.result.now.event.window = window-with_number c.args.event c.self.inside.vertices.values (Some c.at.result.now) (sym (c.at.ensures c.args.event (sym c.in-Some.ensures.slot))) in
+    let is : window_of (network_in c.self.inside) c.args.event ≡ c.value_at.result.now.event.window = window-with_number c.args.event c.self.inside.vertices.values (Some c.value_at.result.now) (sym (c.value_at.ensures c.args.event (sym c.in-Some.ensures.slot))) in
     let some : is_none (window_of (network_in c.self.inside) c.args.event) ≡ false = ap is_none is ∙ is_none-from _ true (c.is_none.ensures ∙ ap not c.if-is_none.false) in
     let events : events_of c.rewindow.new.self.values ≡ with_window c.args.event None (events_of c.self.inside.vertices.values) = c.rewindow.ensures.events c.args.event (sym c.in-Some.ensures.slot) in
     rw (← c.self.view_is, has, some, events) refl

@@ -14,8 +14,8 @@ returns-in-Found-clause-outcome c =
     let peeled = c.args.peeled.now in
     let sums = costed_sums N peeled.piece peeled.rest peeled.cut.inner.items peeled.cut.joint c.requires.peeled in
     let told = rw c.in-Found.is at c.requires.rest in (
-      least_joined (IsCosted N) (IsCosted peeled.piece) (IsCosted peeled.rest) sums c.args.piece.now c.in-Found.rest c.joined.result c.requires.least told.0 c.joined.ensures.costed c.joined.ensures.cost,
-      omega (arith, told.1, c.joined.ensures.cost, c.requires.below),
+      least_joined (IsCosted N) (IsCosted peeled.piece) (IsCosted peeled.rest) sums c.args.piece.now c.in-Found.rest c.join.result c.requires.least told.0 c.join.ensures.costed c.join.ensures.cost,
+      omega (arith, told.1, c.join.ensures.cost, c.requires.below),
     )
 
 pub returns-in-NoneBelow-clause-outcome : goal.returns-in-NoneBelow-clause-outcome
@@ -36,7 +36,7 @@ returns-after-best-clause-outcome c =
       elim c.match-best.branch [
         | in-Some w ↦
             (let below = rw w.in-Some.is at told.0 in
-            subst IsBest (sym w.best-is) (w.joined-in-Some.ensures.costed, omega (arith, below.1, w.joined-in-Some.ensures.cost, c.requires.below)))
+            subst IsBest (sym w.best-is) (w.join-in-Some.ensures.costed, omega (arith, below.1, w.join-in-Some.ensures.cost, c.requires.below)))
         | in-None w ↦ subst IsBest (sym w.best-is) tt
       ],
       stop_of_other (IsCosted N) (IsCosted peeled.piece) (IsCosted peeled.rest) sums c.args.cap c.in-Spent.lower_bound c.saturating_add.result c.args.piece.now c.requires.least told.1

@@ -1,0 +1,6 @@
+-- Found by search, and named so that a wrong body is refused here at once.
+use Rattle.std.proofs.Common.{rules}
+use Rattle.pesp_counts_arcs.proofs.links.Links.ends_at.Goals as goal
+
+pub returns : goal.returns
+returns c = search rules

@@ -1,6 +1,0 @@
--- Found by search, and named so that a wrong body is refused here at once.
-use Rattle.std.proofs.Common.{rules}
-use Rattle.pesp_shell_commands.proofs.name.named.Goals as goal
-
-pub first_named-requires : goal.first_named-requires
-first_named-requires c = search rules
