@@ -1,14 +1,14 @@
-// What is always on the screen: cost and violations, how many events are narrowed, and what can be done next.
+// What is always on the screen: cost and violations, how many events are limited, and what can be done next.
 
 import { costNote, violatedNote } from './forms/changing.js';
+import { display } from './session/display.js';
 import { find, setText } from './base/elements.js';
 import { lengthText } from './session/names.js';
 import { showOpening } from './files/opening.js';
 import { showSaving } from './files/saving.js';
 import { doStep, redo, session, undo } from './session/session.js';
-import { shown } from './session/shown.js';
 import { untimedText } from './base/timed.js';
-import { countNarrowed, countViolated, isInfeasible } from './base/viewing.js';
+import { countLimited, countViolated, isInfeasible } from './base/viewing.js';
 
 const update = view => {
   const { network } = view;
@@ -22,7 +22,7 @@ const update = view => {
   if (document.activeElement !== find('cost-name')) find('cost-name').value = view.labels.cost || '';
   tell('cost', isKnown ? view.cost.toLocaleString('en') : '–', untimed || note, false);
   tellViolated(view, isKnown ? countViolated(view) : null);
-  tellNarrowed(view);
+  tellLimited(view);
   find('undo').disabled = !session.place;
   find('redo').disabled = session.place === session.steps.length;
 };
@@ -32,9 +32,9 @@ const tellViolated = (view, count) => {
   tell('violations', count === null ? '–' : String(count), count === null ? 'no times' : words, count > 0);
 };
 
-const tellNarrowed = view => {
-  if (isInfeasible(view)) tell('narrowed', '✕', 'no timetable meets this', true);
-  else tell('narrowed', String(countNarrowed(view)), `of ${view.network.events.length} events`, false);
+const tellLimited = view => {
+  if (isInfeasible(view)) tell('limited', '✕', 'no timetable meets this', true);
+  else tell('limited', String(countLimited(view)), `of ${view.network.events.length} events`, false);
 };
 
 const tell = (name, value, note, isAlarm) => {
@@ -56,7 +56,7 @@ const OF_FIELDS = ['z', 'y'], FIELDS = 'input:not([type=checkbox])';
 // What cost is called is one of the names.
 const nameCost = event => {
   const cost = event.target.value.trim();
-  doStep([], { labels: { ...shown.labels, cost }, title: `cost is called ${cost || 'cost'}` });
+  doStep([], { labels: { ...display.labels, cost }, title: `cost is called ${cost || 'cost'}` });
 };
 
 export const startHead = () => {

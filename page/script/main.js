@@ -21,7 +21,7 @@ import { findingPanel, startFinding } from './draw/finding.js';
 import { gainsPanel, startGains } from './search/gains.js';
 import { startHanding } from './files/handing.js';
 import { headPanel, startHead } from './head.js';
-import { startHelps } from './forms/helps.js';
+import { helpsPanel, startHelps } from './forms/helps.js';
 import { startLegend } from './draw/legend.js';
 import { startLining } from './forms/lining.js';
 import { linkingPanel, startLinks } from './files/linking.js';
@@ -55,7 +55,7 @@ import { startZooming, zoomPanel } from './draw/zooming.js';
 const PANELS = [
   zoomPanel, axisPanel, eventsPanel, factsPanel, spansPanel, costingPanel, movingPanel, departingPanel, changingPanel, addingPanel, headPanel, diagramPanel, tablesPanel, netgraphPanel, boardsPanel, papersPanel,
   variantsPanel, findingPanel, finderPanel, corridorPanel, trafficPanel, stationsPanel, choosingPanel, violatedPanel, stepsPanel, searchingPanel, proposingPanel, alwaysPanel,
-  tellingPanel, gainsPanel, linkingPanel, draftsPanel,
+  tellingPanel, gainsPanel, helpsPanel, linkingPanel, draftsPanel,
 ];
 
 const STARTS = [

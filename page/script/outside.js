@@ -7,6 +7,7 @@ import { boundingOf } from './search/bounding.js';
 import { chooseCorridor, corridor } from './draw/corridor.js';
 import { diagramOf } from './draw/diagram.js';
 import { costsBeside, differences } from './session/differing.js';
+import { display, within } from './session/display.js';
 import { drawing, find, readyAfter, say } from './base/elements.js';
 import { showBar, showRow } from './forms/events.js';
 import { filesOf, filesToSave, folderName, isSaved } from './files/filing.js';
@@ -26,7 +27,6 @@ import { showSaving } from './files/saving.js';
 import {
   askSession, choose, doStep, goTo, journal, present, preview, redo, refresh, session, timesNow, titleOf, undo,
 } from './session/session.js';
-import { shown, within } from './session/shown.js';
 import { sizeNow } from './session/sizes.js';
 import { atOnce } from './draw/slices.js';
 import { rangeShown } from './forms/spans.js';
@@ -39,11 +39,11 @@ import { countViolated, isInfeasible } from './base/viewing.js';
 import { asItIs } from './search/widening.js';
 
 window.Page = Object.freeze({
-  get view() { return shown.view; },
-  get labels() { return shown.labels; },
-  get places() { return shown.places; },
-  get chosen() { return shown.chosen; },
-  get chosenLine() { return shown.chosenLine; },
+  get view() { return display.view; },
+  get labels() { return display.labels; },
+  get places() { return display.places; },
+  get chosen() { return display.chosen; },
+  get chosenLine() { return display.chosenLine; },
   get tab() { return tabNow(); },
   get program() { return programNow(); },
   get readyAfter() { return readyAfter(); },

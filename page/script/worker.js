@@ -73,9 +73,9 @@ const search = async (asked, tell, isLeft) => {
     const { found, took, nodes } = stepOf(session, most - gone, events), until = performance.now() + took;
     gone += nodes;
     isDone = isSure(found) || gone === most;
-    for (let told = found; told; told = isDone || found.bound || isLeft() || performance.now() > until ? null : boundingNow(session).goOn(found)) {
-      isDone = isDone || isSure(told);
-      tell({ found: told, nodes: gone, isDone });
+    for (let result = found; result; result = isDone || found.bound || isLeft() || performance.now() > until ? null : boundingNow(session).goOn(found)) {
+      isDone = isDone || isSure(result);
+      tell({ found: result, nodes: gone, isDone });
       await hear();
     }
   }
@@ -102,17 +102,17 @@ const OF_A_BLOB = 1 << 22;
 // A long file in the form that is read here, and the words on that.
 const convertedFile = ({ kind, blob }) => {
   const encoder = new TextEncoder(), blobs = [];
-  let length = 0, waiting = 0, parts = [];
-  const told = convert(kind, sourceOfBlob(blob), text => {
+  let length = 0, waiting = 0, chunks = [];
+  const notes = convert(kind, sourceOfBlob(blob), text => {
     const bytes = encoder.encode(text);
     [length, waiting] = [length + bytes.length, waiting + bytes.length];
     if (length > MOST_BYTES) throw new Error(`${kind} file is too long: converted it has more than ${MOST_BYTES.toLocaleString('en')} bytes`);
-    parts.push(bytes);
+    chunks.push(bytes);
     if (waiting < OF_A_BLOB) return;
-    blobs.push(new Blob(parts));
-    [waiting, parts] = [0, []];
+    blobs.push(new Blob(chunks));
+    [waiting, chunks] = [0, []];
   });
-  return { blob: new Blob([...blobs, ...parts]), told };
+  return { blob: new Blob([...blobs, ...chunks]), notes };
 };
 
 const convertFiles = ({ files }, tell) => tell({ converted: files.map(convertedFile), isDone: true });
@@ -146,7 +146,7 @@ const work = async (asked, tell, isLeft) => {
     await WORK[asked.kind](asked, tell, isLeft);
   } catch (fault) {
     close();
-    tell({ fault: String(fault.message || fault), isDone: true });
+    tell({ fault: String(fault.message || fault), refused: fault.refused, isDone: true });
   }
 };
 
@@ -159,7 +159,7 @@ const listen = () => {
     while (waiting) {
       const given = waiting;
       waiting = null;
-      await work(given, told => self.postMessage({ ...told, id: given.id }), () => Boolean(waiting));
+      await work(given, answer => self.postMessage({ ...answer, id: given.id }), () => Boolean(waiting));
     }
     isAtWork = false;
   };

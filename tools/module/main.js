@@ -6,7 +6,7 @@
 
 const { readFileSync } = require('node:fs');
 const { inflateRawSync } = require('node:zlib');
-const { settingsOf, wordsAreText, Refused, Help } = require('./words.js');
+const { settingsOf, wordsAreText, Refused, Shown } = require('./words.js');
 const { contents, writeAll, Fault } = require('./devices.js');
 const { Lines } = require('./lines.js');
 const { Session } = require('./session.js');
@@ -60,13 +60,18 @@ const ended = fault => {
   return [70, `tools/pespbench: the page's module broke off: ${fault.message}\n`];
 };
 
-const help = () => writeAll(readFileSync(`${__dirname}/help.txt`));
+// The page has the version, and the folder the help.
+const textOf = (name, page) => {
+  if (name === 'help') return readFileSync(`${__dirname}/help.txt`);
+  const [, version] = /<span id="version">([^<]*)</.exec(readFileSync(page, 'latin1'));
+  return Buffer.from(`pespbench ${version}, the page's module under Node, and not proved\n`);
+};
 
 const main = async ([page, script, ...words]) => {
   try {
     await work(page, script, words).catch(fault => {
-      if (!(fault instanceof Help)) throw fault;
-      help();
+      if (!(fault instanceof Shown)) throw fault;
+      writeAll(textOf(fault.message, page));
     });
     return 0;
   } catch (fault) {

@@ -4,7 +4,8 @@
 
 const { readFileSync } = require('node:fs');
 
-class Help extends Error {}
+// What is printed in place of answers.
+class Shown extends Error {}
 
 class Refused extends Error {}
 
@@ -47,12 +48,13 @@ const valueOf = (name, inline, words) => {
 const takeOption = (settings, word, words) => {
   const [, name, inline] = /^--([^=]*)(?:=([^]*))?$/.exec(word) || [];
   if (VALUED.includes(name)) return put(settings, name, valueOf(name, inline, words));
-  if (name === 'check' || name === 'help') {
+  if (name === 'check' || name === 'help' || name === 'version') {
     if (inline !== undefined) refuse(`unexpected value '${inline}' for '--${name}'`);
-    if (name === 'help') throw new Help();
+    if (name !== 'check') throw new Shown(name);
     return put(settings, name, true);
   }
-  if (word.startsWith('-h')) throw new Help();
+  if (word.startsWith('-h')) throw new Shown('help');
+  if (word.startsWith('-V')) throw new Shown('version');
   return refuse(`unexpected argument '${word}' found`);
 };
 
@@ -72,4 +74,4 @@ const settingsOf = given => {
   return { period: USUAL_PERIOD, check: false, ...settings };
 };
 
-module.exports = { settingsOf, wordsAreText, Help, Refused };
+module.exports = { settingsOf, wordsAreText, Shown, Refused };

@@ -46,7 +46,7 @@ def activity_added(suite: Suite, page: Hands) -> None:
     for name, text in [("least", "9"), ("most", "3\n")]:
         page.fill(f"#added-{name}", text)
     came = {"said": page.said(), "typed": page.ask("Page.find('added-least').value"), "lines": len(page.lines())}
-    suite.note("a span that is none", {"said": "add activity 147 9 1 9 3 1 — fault lower bound above upper bound", "typed": "9", "lines": 1}, came)
+    suite.note("a span that is none", {"said": "from R1 to Inworth leaves Marden to R1 to Inworth leaves Gorsley: the least minutes are more than the most", "typed": "9", "lines": 1}, came)
     page.again()
 
 
@@ -55,11 +55,11 @@ def dropped_by_hand(suite: Suite, page: Hands) -> None:
     page.show(TWO_TRAINS)
     state = page.state()
     button = '[data-activity="1"] .drop'
-    suite.note("the button", {"text": "Drop run 1"}, {"text": page.text(button)})
+    suite.note("the button", {"text": "Drop this run"}, {"text": page.text(button)})
     page.click(*page.middle(button))
     page.frame()
     suite.note("an activity", {"lines": ["drop activity 1"], "left": 1}, {"lines": page.lines(), "left": page.ask("Page.view.network.activities.size")})
-    suite.note("the event", {"text": "Drop event 1 and its activity"}, {"text": page.text("#drop-event")})
+    suite.note("the event", {"text": "Drop this departure and its activity"}, {"text": page.text("#drop-event")})
     page.press("drop-event")
     wanted = {"lines": ["drop activity 1", "drop activity 2", "drop event 1"], "left": [2], "chosen": 2}
     came = {"lines": page.lines(), "left": page.ask("Page.view.network.events"), "chosen": page.ask("Page.chosen")}
@@ -95,7 +95,7 @@ def labels_added(suite: Suite, page: Hands) -> None:
     with tempfile.TemporaryDirectory() as folder:
         page.drop(*placed(folder, {"labels": "event\n1; R1; Inworth; Gorsley West; departure\nactivity\n1; trip\n"}))
         came = {"name": page.text("#chosen-name"), "card": page.text('[data-activity="1"] .drop'), "lines": page.lines()}
-        wanted = {"name": "R1 to Inworth leaves Gorsley West", "card": "Drop trip 1", "lines": ["fix 1 30"]}
+        wanted = {"name": "R1 to Inworth leaves Gorsley West", "card": "Drop this trip", "lines": ["fix 1 30"]}
         suite.note("added", wanted, came)
         suite.note("the others stay", {"name": "Dale arr."}, {"name": page.text('[data-row="2"] .name')})
         page.press("undo")

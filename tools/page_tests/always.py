@@ -60,7 +60,7 @@ def above_told(suite: Suite, page: Hands) -> None:
     best, shown = page.ask(BEST.replace("...MORE, ", "")), page.ask(COST)
     told = f"{shown - best:,} above the best, which costs {best:,}"
     came = {"above": page.text("#above"), "found": page.text("#found"), "adopt": page.is_shown("adopt")}
-    suite.note("beside what is shown", {"above": told, "found": f"Cost {best:,}: no timetable costs less.", "adopt": True}, came)
+    suite.note("beside what is shown", {"above": told, "found": f"Cost {best:,}: no timetable is better.", "adopt": True}, came)
     x, y = page.minute(21, 40)
     page.ask("Page.find('rest').value = ''")
     page.drag([page.minute(21, 20), (x, y)])
@@ -145,21 +145,41 @@ def rest_follows_later(suite: Suite, page: Hands) -> None:
     page.again()
 
 
+def drag_train(page: Hands, event: int, words: str) -> Dict[int, int]:
+    """The times after the train of an event is dragged 3 minutes later: meanwhile the page says these words, then the rest follows."""
+    x, y, minute = way_of(page, event)
+    page.drag([(x, y), (x + 2 * minute, y), (x + 3 * minute, y)], is_released=False)
+    page.until(f"Page.find('above').textContent.startsWith('{words}')")
+    page.mouse("mouseReleased", x + 3 * minute, y)
+    page.until(FOLLOWED)
+    return times(page)
+
+
 @within(120)
 def nearest_follows(suite: Suite, page: Hands) -> None:
     """The rest follows to the nearest timetable where that is chosen: what the hand leaves met does not move."""
     ticked(page, "near")
     before = times(page)
-    x, y, minute = way_of(page, 21)
-    page.drag([(x, y), (x + 2 * minute, y), (x + 3 * minute, y)], is_released=False)
-    page.until("Page.find('above').textContent.startsWith('the nearest with it there')")
-    page.mouse("mouseReleased", x + 3 * minute, y)
-    page.until(FOLLOWED)
-    now = times(page)
+    now = drag_train(page, 21, "the nearest with it there")
     moved = {event: min((now[event] - before[event]) % 60, (before[event] - now[event]) % 60) for event in now if now[event] != before[event]}
     others = {event: minutes for event, minutes in moved.items() if not 21 <= event <= 30}
     suite.note("met", {"violated": 0, "hand": 10}, {"violated": page.ask(VIOLATED), "hand": len(moved) - len(others)})
     suite.holds(f"others: {others}", 0 < len(others) <= 10 and set(others.values()) <= {1, 2} and all(31 <= event <= 40 for event in others))
+    page.again()
+
+
+@within(120)
+def rest_with_nothing_held(suite: Suite, page: Hands) -> None:
+    """Where nothing else is held the whole timetable is not turned with the hand: the rest follows to the nearest, which is said."""
+    page.again()
+    page.press("always")
+    page.until(KNOWN)
+    page.press("adopt")
+    before = times(page)
+    now = drag_train(page, 105, "the nearest with it there, as nothing else is held")
+    moved = [event for event in now if now[event] != before[event]]
+    suite.note("met", {"violated": 0, "hand": [3] * 8}, {"violated": page.ask(VIOLATED), "hand": [(now[event] - before[event]) % 60 for event in range(105, 113)]})
+    suite.holds(f"{len(moved)} of {len(now)} events are moved", 8 < len(moved) < len(now) / 2)
     page.again()
 
 
@@ -212,4 +232,4 @@ def pictures_go_on(suite: Suite, page: Hands) -> None:
     page.again()
 
 
-GROUPS = [above_told, rest_follows, rest_follows_later, nearest_follows, rest_stays, pictures_go_on]
+GROUPS = [above_told, rest_follows, rest_follows_later, nearest_follows, rest_with_nothing_held, rest_stays, pictures_go_on]

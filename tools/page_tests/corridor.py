@@ -162,7 +162,7 @@ def traffic(suite: Suite, page: Hands) -> None:
     broken = {"ways": points(page, 'path.broken[data-activity="4"]'), "told": page.text('#corridor text.broken[data-activity="4"]')[:11]}
     suite.note("which is violated where it leaves", {"ways": [[[(2, "A"), (8, "A")]]], "told": "6 not 10–12"}, broken)
     page.show({**HOURLY, "times": ""})
-    came = {"ways": points(page, ".way"), "told": "drawn between events with times: " in page.text("#corridor-note")}
+    came = {"ways": points(page, ".way"), "told": "shown between events with times: " in page.text("#corridor-note")}
     suite.note("without times", {"ways": [], "told": True}, came)
 
 

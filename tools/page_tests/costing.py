@@ -40,7 +40,7 @@ def priced(suite: Suite, page: Hands) -> None:
     """Each minute has its price, the best is named, and a click on one holds the event there and takes its timetable over."""
     asked(page, ["fix 1 0"], 2)
     suite.note("all of them", {"told": "Best: :04, cost 4. No timetable: :00–:03, :06–:09."}, {"told": page.text(SUMMARY)})
-    for minute, told in [(4, "at :04 the best costs least: 4"), (5, "at :05 the best costs 1 more"), (7, "at :07 there is no timetable")]:
+    for minute, told in [(4, "at :04 the best is as good as any: cost 4"), (5, "at :05 the best costs 1 more"), (7, "at :07 there is no timetable")]:
         suite.note(told, {"told": told}, {"told": looked(page, minute)})
     came = {"shades": page.ask("document.querySelectorAll('.strip.priced').length"), "best": page.ask(f"document.querySelector('{CURVE} .best').style.left")}
     suite.note("drawn", {"shades": 1, "best": "45%"}, came)
@@ -68,7 +68,7 @@ def priced_by_keys(suite: Suite, page: Hands) -> None:
         page.frame()
         page.frame()
         told.append(page.ask(f"document.querySelector('{CURVE}').getAttribute('aria-valuetext')"))
-    suite.note("by keys", {"told": ["at :04 the best costs least: 4", "at :05 the best costs 1 more"]}, {"told": told})
+    suite.note("by keys", {"told": ["at :04 the best is as good as any: cost 4", "at :05 the best costs 1 more"]}, {"told": told})
     page.type("\n")
     came = {"lines": page.lines(), "keys": page.ask("document.activeElement.className")}
     suite.note("Enter", {"lines": ["fix 1 0", "fix 2 5", "time 2 5"], "keys": "curve"}, came)
@@ -103,7 +103,7 @@ def priced_as_told(suite: Suite, page: Hands) -> None:
     page.again()
     page.press("ask-prices")
     page.until(WHOLE)
-    suite.holds(f"nothing is held: {page.text(SUMMARY)}", page.text(SUMMARY).startswith("Each minute costs the same: nothing else is held"))
+    suite.holds(f"nothing is held: {page.text(SUMMARY)}", page.text(SUMMARY).startswith("Each minute is as good as any: nothing else is held"))
     page.ask("Page.step(['fix 21 26'])")
     page.until(f"{WHOLE} && !document.querySelector('{SUMMARY}').textContent.includes('known')")
     minutes = list(range(0, 60, 7))

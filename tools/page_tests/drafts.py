@@ -189,7 +189,7 @@ def drafts_strange(suite: Suite, page: Hands) -> None:
         suite.note(name, {"told": told}, {"told": shown[: len(told)]})
     open_first(page)
     came = {"said": page.said(), "title": page.text("#title")}
-    told = "The draft cannot be opened: fix 7 3: refused 2 no event 7."
+    told = "The draft cannot be opened: no event 7."
     suite.note("refused", {"said": told, "title": "A region of 112 events"}, came)
     came = {"acted": page.ask("typeof hostile"), "images": page.ask("document.images.length")}
     suite.note("and nothing acts", {"acted": "undefined", "images": 0}, came)
@@ -281,10 +281,10 @@ def drafts_refused(suite: Suite, page: Hands) -> None:
     page.drag([page.minute(1, 20), page.minute(1, 30)])
     page.until("Page.find('said').textContent.includes('no room')")
     word = "This state has no draft: the browser has no room for it."
-    suite.note("no room", {"said": f"fix 1 30 — {word}"}, {"said": page.said()})
+    suite.note("no room", {"said": f"R1 to Inworth leaves Gorsley: held at :30 — {word}"}, {"said": page.said()})
     page.drag([page.minute(1, 20), page.minute(1, 35)])
     page.ask("new Promise(done => setTimeout(done, 600))")
-    suite.note("which is told once", {"said": "fix 1 35"}, {"said": page.said()})
+    suite.note("which is told once", {"said": "R1 to Inworth leaves Gorsley: held at :35"}, {"said": page.said()})
     page.press("save")
     suite.note("and where it is chosen", {"told": word}, {"told": page.text("#draft-told")})
     page.press("saving-close")

@@ -190,20 +190,20 @@ def refusals(suite: Suite, page: Hands) -> None:
     page.ask("Page.showTab('lines')")
     state = page.state()
     for line, told in [
-        ("span 1 9 3", "fault lower bound above upper bound"),
-        ("fix 1 10", "refused 4 time 10 is out of range"),
-        ("fix 7 1", "refused 2 no event 7"),
-        ("add event", "fault wrong number of words"),
+        ("span 1 9 3", "run of M from Ashford to Benton: the least minutes are more than the most"),
+        ("fix 1 10", "M to Benton leaves Ashford: minute 10 is beyond the period"),
+        ("fix 7 1", "no event 7"),
+        ("add event", "wrong number of words"),
     ]:
         page.ask(f"Page.find('line').value = '{line}'")
         page.ask("Page.find('typed').requestSubmit()")
         page.frame()
         came = {"said": page.said(), "lines": page.lines(), "state": page.state() == state}
-        suite.note(line, {"said": f"{line} — {told}", "lines": [], "state": True}, came)
+        suite.note(line, {"said": told, "lines": [], "state": True}, came)
     page.ask("Page.find('line').value = 'weight 1 6'; Page.find('typed').requestSubmit()")
     suite.note(
         "a line that is done",
-        {"lines": ["weight 1 6"], "listed": "weight 1 6"},
+        {"lines": ["weight 1 6"], "listed": "run of M from Ashford to Benton: weight 6, was 2 — weight 1 6"},
         {"lines": page.lines(), "listed": page.text("#steps")},
     )
     page.ask("Page.find('line').value = 'domain 1'; Page.find('typed').requestSubmit()")

@@ -24,8 +24,8 @@ def found_by_typing(suite: Suite, page: Hands) -> None:
     for text, first, wanted in [
         ("kelby", "Kelby station, 14 events", {"chosen": 6, "tab": "netgraph", "line": "R1"}),
         ("r5", "R5 line, Gorsley – Marden", {"chosen": 81, "tab": "diagram", "line": "R5"}),
-        ("37", "R2 to Cranley leaves Jarrow event 37", {"chosen": 37, "tab": "netgraph", "line": "R2"}),
-        ("inworth LEAVES dale", "R1 to Inworth leaves Dale event 3", {"chosen": 3, "tab": "netgraph", "line": "R1"}),
+        ("37", "R2 to Cranley leaves Jarrow at :40", {"chosen": 37, "tab": "netgraph", "line": "R2"}),
+        ("inworth LEAVES dale", "R1 to Inworth leaves Dale at :49", {"chosen": 3, "tab": "netgraph", "line": "R1"}),
     ]:
         page.ask("Page.showTab('netgraph')")
         page.fill(FIELD, text)
@@ -43,7 +43,7 @@ def led_to_a_bar(suite: Suite, page: Hands) -> None:
     page.again()
     page.type("/")
     page.type("r3 to kelby")
-    suite.note("the first", {"it": "R3 to Kelby train from Farley, event 41"}, {"it": found(page)[0]})
+    suite.note("the first", {"it": "R3 to Kelby train from Farley at :46"}, {"it": found(page)[0]})
     page.type("\n")
     came = {"bar": page.ask("Number(document.activeElement.dataset.way)"), "chosen": page.ask("Page.chosen")}
     suite.note("its bar", {"bar": 41, "chosen": 41}, came)
@@ -71,7 +71,7 @@ def listed(suite: Suite, page: Hands) -> None:
     suite.note("what a screen reader is told", {"it": second}, {"it": active})
     page.key("Enter", 13)
     page.frame()
-    suite.note("Enter", {"it": second}, {"it": page.ask("`${Page.eventName(Page.chosen)} event ${Page.chosen}`")})
+    suite.note("Enter", {"it": second}, {"it": page.ask("`${Page.eventName(Page.chosen)} at :${String(Page.view.times.get(Page.chosen)).padStart(2, 0)}`")})
     page.fill(FIELD, "norwood")
     page.key("Escape", 27)
     suite.note("Escape", {"shown": False}, {"shown": page.ask("document.querySelector('#finder ul').getClientRects().length > 0")})
@@ -86,7 +86,7 @@ def listed(suite: Suite, page: Hands) -> None:
         wanted = found(page)[3]
         act(*page.middle("#finder li:nth-child(4)"))
         page.frame()
-        suite.note(name, {"it": wanted}, {"it": page.ask("`${Page.eventName(Page.chosen)} event ${Page.chosen}`")})
+        suite.note(name, {"it": wanted}, {"it": page.ask("`${Page.eventName(Page.chosen)} at :${String(Page.view.times.get(Page.chosen)).padStart(2, 0)}`")})
     touch(page, is_on=False)
     page.fill(FIELD, "nowhere")
     suite.note("nothing", {"told": "nothing is found", "found": []}, {"told": page.text("#finder ul"), "found": found(page)})
@@ -100,13 +100,13 @@ def found_names(suite: Suite, page: Hands) -> None:
     page.again()
     page.show(texts_of([("Ü1", "<b>Zürich</b>", [("Genève", 0), ("<b>Zürich</b>", 10)]), *TRAINS], []))
     for text, wanted in [
-        ("geneve", ["Genève station, 1 event", "Ü1 to <b>Zürich</b> leaves Genève event 1"]),
+        ("geneve", ["Genève station, 1 event", "Ü1 to <b>Zürich</b> leaves Genève at :00"]),
         (
             "u1 zurich",
             [
-                "Ü1 to <b>Zürich</b> train from Genève, event 1",
-                "Ü1 to <b>Zürich</b> leaves Genève event 1",
-                "Ü1 to <b>Zürich</b> arrives at <b>Zürich</b> event 2",
+                "Ü1 to <b>Zürich</b> train from Genève at :00",
+                "Ü1 to <b>Zürich</b> leaves Genève at :00",
+                "Ü1 to <b>Zürich</b> arrives at <b>Zürich</b> at :10",
             ],
         ),
     ]:

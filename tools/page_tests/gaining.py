@@ -69,7 +69,7 @@ def gains_asked(suite: Suite, page: Hands) -> None:
         suite.holds(f"{kind}, {way}: the most first", sums == sorted(sums, reverse=True))
     choose(page, [])
     page.press("ask-gains")
-    suite.note("none is ticked", {"said": "No activity of these kinds has a span that rules anything out."}, {"said": page.said()})
+    suite.note("none is ticked", {"said": "No activity of these kinds has least or most minutes that rule anything out."}, {"said": page.said()})
 
 
 def gains_taken(suite: Suite, page: Hands) -> None:

@@ -40,10 +40,10 @@ def strips(suite: Suite, page: Hands) -> None:
     )
     page.key("z", 90, CTRL)
     page.frame()
-    suite.note("Ctrl and z", {"said": "undone: unfix 1"}, {"said": page.said()})
+    suite.note("Ctrl and z", {"said": "undone: M to Benton leaves Ashford: no longer held"}, {"said": page.said()})
     page.key("y", 89, CTRL)
     page.frame()
-    suite.note("Ctrl and y", {"said": "done again: unfix 1"}, {"said": page.said()})
+    suite.note("Ctrl and y", {"said": "done again: M to Benton leaves Ashford: no longer held"}, {"said": page.said()})
 
 
 def handles(suite: Suite, page: Hands) -> None:

@@ -133,10 +133,10 @@ def elided(suite: Suite, page: Hands) -> None:
     """Networks that are too large to draw are drawn in part, soon, with a word that says so."""
     for lines, stations, tab, wanted in [
         (1, 349, "netgraph", ""),
-        (50, 7, "netgraph", "Elided: of 350 stations the 120 nearest to S0 are drawn."),
-        (500, 8, "netgraph", "Elided: of 4,000 stations the 120 nearest to S0 are drawn."),
-        (1, 4_000, "netgraph", "Elided: of 4,000 stations the 120 nearest to S0 are drawn."),
-        (1, 4_000, "diagram", "Elided: of 4,000 stations the 120 about S0 are drawn."),
+        (50, 7, "netgraph", "Elided: of 350 stations the 120 nearest to S0 are shown."),
+        (500, 8, "netgraph", "Elided: of 4,000 stations the 120 nearest to S0 are shown."),
+        (1, 4_000, "netgraph", "Elided: of 4,000 stations the 120 nearest to S0 are shown."),
+        (1, 4_000, "diagram", "Elided: of 4,000 stations the 120 about S0 are shown."),
     ]:
         with tempfile.TemporaryDirectory() as folder:
             page.again()
@@ -146,7 +146,7 @@ def elided(suite: Suite, page: Hands) -> None:
         rings = page.ask("document.querySelectorAll('#netgraph .ring').length") if tab == "netgraph" else 120
         suite.note("stations", {"drawn": 120 if wanted else stations}, {"drawn": rings})
     page.ask("Page.showRow(4000)")
-    suite.holds("the stations about another event", "about S2000 are drawn" in page.text("#diagram-note"))
+    suite.holds("the stations about another event", "about S2000 are shown" in page.text("#diagram-note"))
     with tempfile.TemporaryDirectory() as folder:
         page.again()
         many = "".join(f"{number}; 1; 2; 3; 5; 1000000000\n" for number in range(100_000))
@@ -166,7 +166,7 @@ def many_lines_drawn(suite: Suite, page: Hands) -> None:
     for stations, is_shared, tab, wanted in [
         (80, False, "diagram", ""),
         (190, True, "diagram", "Elided: of 9,261 runs of other lines the first 2,000 are shown."),
-        (190, True, "corridor", "Elided: of 190 stations the 120 about S0 are drawn."),
+        (190, True, "corridor", "Elided: of 190 stations the 120 about S0 are shown."),
     ]:
         with tempfile.TemporaryDirectory() as folder:
             page.again()

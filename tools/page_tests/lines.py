@@ -52,7 +52,11 @@ def altered(page: Hands, line: str, form: str, **fields: str) -> str:
     page.click(*page.middle(f'[data-alter="{line}"]'))
     page.frame()
     for field, text in fields.items():
-        page.fill(f"#{field.replace('_', '-')}", text)
+        if field == "stop_between":
+            page.ask("Page.find('stop-between').focus()")
+            page.type(text)
+        else:
+            page.fill(f"#{field.replace('_', '-')}", text)
     page.click(*page.middle(f"#{form} button:not([type])"))
     page.frame()
     told = page.text("#altering-fault")
@@ -169,6 +173,30 @@ def line_altered(suite: Suite, page: Hands) -> None:
         suite.holds(f"{form}: {fault}", told in fault and page.lines() == [] and page.state() == state)
 
 
+def stop_beyond(suite: Suite, page: Hands) -> None:
+    """A line is given a stop beyond either end: its trains go there, come from there, and turn there; equal ones are tied there too."""
+    page.show(NETWORK)
+    state, stop = page.state(), {"stop_station": "D", "stop_before": "4 to 5", "stop_dwell": "2"}
+    turn = "(({ first, last }) => [first, last].map(event => Page.eventName(event)))(Page.view.network.activities.get(7))"
+    told = altered(page, "M", "stop-line", stop_between="beyond c", **stop)
+    came = {"told": told, "trains": trains(page, "M"), "turn": page.ask(turn), "said": page.said().split(":")[0]}
+    way = ["D, A 0, B 5, B 7, C 13, C 15, D 19", "A, D 14, C 18, C 20, B 26, B 28, A 33"]
+    suite.note("beyond the last", {"told": "", "trains": way, "turn": ["M to D arrives at D", "M to A leaves D"], "said": "line M stops at D, beyond C"}, came)
+    spans = page.ask("[11, 12, 13, 14].map(number => (({ lower, upper, weight }) => [lower, upper, weight, Page.kindOf(number)])(Page.view.network.activities.get(number)))")
+    suite.note("what it adds", {"they": [[2, 2, 3, "dwell"], [4, 5, 3, "run"], [4, 5, 1, "run"], [2, 2, 1, "dwell"]]}, {"they": spans})
+    undone(suite, page, state)
+    altered(page, "M", "stop-line", stop_between="beyond a", **stop)
+    way = ["D, C 20, B 26, B 28, A 33, A 35, D 39", "C, D 54, A 58, A 0, B 5, B 7, C 13"]
+    suite.note("beyond the first", {"trains": way, "turn": ["M to C arrives at C", "M to D leaves C"]}, {"trains": trains(page, "M"), "turn": page.ask(turn)})
+    undone(suite, page, state)
+    twins = "[...Page.view.network.activities.values()].filter(({ number }) => Page.kindOf(number) === 'twin').length"
+    altered(page, "M", "hourly-line", hourly="2")
+    for place, count in [("beyond c", 12), ("between b", 16)]:
+        before = page.ask(twins)
+        altered(page, "M", "stop-line", stop_between=place, **{**stop, "stop_station": place[-1] + "1"}, **({} if place == "beyond c" else {"stop_after": "4"}))
+        suite.note(f"{place}: ties", {"before": count - 4, "after": count}, {"before": before, "after": page.ask(twins)})
+
+
 def hourly(suite: Suite, page: Hands) -> None:
     """Trains an hour are a number: further trains are equal and tied, and those that are there stay."""
     page.show(NETWORK)
@@ -240,4 +268,4 @@ def cost_called(suite: Suite, page: Hands) -> None:
     page.press("tab-diagram")
 
 
-GROUPS = [cost_called, new_network, departure, line_altered, hourly, event_without_time]
+GROUPS = [cost_called, new_network, departure, line_altered, stop_beyond, hourly, event_without_time]

@@ -17,7 +17,7 @@ MODULES = "/usr/share/nodejs"
 CHECKED = ["--noUnusedLocals", "--noUnusedParameters", "--noImplicitReturns", "--noImplicitThis", "--noFallthroughCasesInSwitch"]
 CHECKED += ["--strictBindCallApply", "--strictFunctionTypes"]
 # The modules that lay out what others draw, and the most lines of all of them.
-LAYING_OUT, MOST_DRAWING = ("captions", "lanes", "places", "report", "spreading", "stretch", "ways"), 2_000
+LAYING_OUT, MOST_DRAWING = ("captions", "places", "report", "routes", "spreading", "stretch", "tracks"), 2_000
 # The folders of modules, each above those before it; the last are the modules that are in none.
 ORDER = ["base", "session", "forms", "draw", "search", "files", "script"]
 # A text that is an edit with its numbers, or that is put before them.

@@ -131,7 +131,7 @@ def refused(suite: Suite, page: Hands) -> None:
         (
             "a window",
             {"activities": "1; 1; 2; 3; 5; 2\n", "windows": "1; 3; 11\n", "period": "10"},
-            "window 1 3 11: refused 13 length 11 is out of range",
+            "event 1: it cannot be held for 11 minutes of the period",
         ),
         (
             "a label",

@@ -71,11 +71,11 @@ def told(conflict: Conflict, names: Names) -> List[Any]:
     """A conflict with its mends."""
     count = len(conflict.members)
     rows = [[name, bounds.replace("hard", "not to be changed")] for name, bounds in (member_row(each, conflict, names) for each in ordered(conflict))]
-    texts = [shape_text(conflict).strip(), claim_text(conflict, names).strip().replace("nodes", "cases")]
+    texts = [shape_text(conflict).strip(), claim_text(conflict, names).strip().replace("nodes", "attempts")]
     lines: List[Any] = [f"These {count} cannot be met together" if count > 1 else "This cannot be met", rows, *filter(None, texts)]
     if not conflict.mends:
-        return [*lines, "No member that may be changed is seen to mend it alone."]
-    lines.append("The least that mends it, by one member alone")
+        return [*lines, "Nothing that may be changed is seen to mend it alone."]
+    lines.append("The least that mends it, by one change alone")
     for verdict, words in WHOLE.items():
         listed = [mend_row(mend, names) for mend in conflict.mends if mend.whole is verdict]
         lines += [words[0].upper() + words[1:], listed] if listed else []

@@ -85,7 +85,7 @@ def without_times(suite: Suite, page: Hands) -> None:
     """Where there is no timetable, that is said above all."""
     path = opened(page, {**CONTENT, "times": [], "tensions": None, "violations": None, "cost": None, "missing": "event 1 has no time"})
     suite.note("the headline", {"it": "There is no timetable yet."}, {"it": page.text("#printed .headline")})
-    suite.holds("what is not known", "event 1 has no time, so nothing is said of slack, cost and violations." in page.text("#printed"))
+    suite.holds("what is not known", "events have no time, so nothing is said of slack, cost and violations." in page.text("#printed"))
     closed(page, path)
 
 

@@ -47,7 +47,7 @@ def found_seen(suite: Suite, page: Hands) -> None:
     seen = times(page)
     page.press("take-proposed")
     came = {"times": times(page), "steps": page.ask("Page.session.steps.length"), "cost": page.text("#figure-cost b"), "said": page.said()}
-    suite.note("taken", {"times": seen, "steps": 1, "cost": "13,241", "said": "adopted: 12 trains move, by at most 30 minutes; cost 5,263 less"}, came)
+    suite.note("taken", {"times": seen, "steps": 1, "cost": "13,241", "said": "taken over: 12 trains move, by at most 30 minutes; cost 5,263 less"}, came)
     page.key("z", 90, CTRL)
     page.frame()
     suite.note("undone", {"times": before}, {"times": times(page)})

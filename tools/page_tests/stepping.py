@@ -140,7 +140,7 @@ def tried(suite: Suite, page: Hands, name: str, most: int, sizes: List[int], tol
     page.press("try")
     page.until(DONE)
     suite.note(name, {"nodes": sizes}, {"nodes": page.ask("window.calls.map(({ nodes }) => nodes)")})
-    suite.holds(f"{name}: after so many", page.text("#clock").startswith(f"after {told:,} cases"))
+    suite.holds(f"{name}: after so many", page.text("#clock").startswith(f"after {told:,} attempts"))
 
 
 @within(120)

@@ -11,7 +11,7 @@ from tests.harness import Suite, within
 
 FOUND, CLOCK = "Page.find('found').textContent", "Page.find('clock').textContent"
 # A timetable that is perhaps not the best, with a bound or without.
-BEST = re.compile(r"Cost ([\d,]+), (?:at most [\d,.]+ % above the best|perhaps not the best)(?: \(none can cost less than ([\d,]+)\))?$")
+BEST = re.compile(r"Cost ([\d,]+), (?:at most [\d,.]+ % above the best|perhaps not the best)(?: \(none can be below ([\d,]+)\))?$")
 IS_BEST = f"{FOUND}.startsWith('Cost ')"
 
 # Keeps what a Worker is asked, but for rest, which does not come to it where that is said.
@@ -50,15 +50,15 @@ def in_words(suite: Suite, page: Hands) -> None:
     """What searches have come to is told in a planner's words, exactly, and never as better than it is."""
     for answer, told in [
         ("kind: 'none'", "No timetable yet"),
-        ("kind: 'none', bound: 14502", "No timetable yet; none can cost less than 14,502"),
-        ("kind: 'stopped', cost: 14816, bound: 14502", "Cost 14,816, at most 2.2 % above the best (none can cost less than 14,502)"),
-        ("kind: 'stopped', cost: 14502, bound: 14500", "Cost 14,502, at most 0.1 % above the best (none can cost less than 14,500)"),
+        ("kind: 'none', bound: 14502", "No timetable yet; none can be below 14,502"),
+        ("kind: 'stopped', cost: 14816, bound: 14502", "Cost 14,816, at most 2.2 % above the best (none can be below 14,502)"),
+        ("kind: 'stopped', cost: 14502, bound: 14500", "Cost 14,502, at most 0.1 % above the best (none can be below 14,500)"),
         ("kind: 'stopped', cost: 14816", "Cost 14,816, perhaps not the best"),
         ("kind: 'stopped', cost: 14816, bound: 0", "Cost 14,816, perhaps not the best"),
-        ("kind: 'stopped', cost: 14816, bound: 3", "Cost 14,816, perhaps not the best (none can cost less than 3)"),
-        ("kind: 'stopped', cost: 9007199254740995n, bound: 9007199254740993n", "Cost 9,007,199,254,740,995, at most 0.1 % above the best (none can cost less than 9,007,199,254,740,993)"),
-        ("kind: 'stopped', cost: 14816, bound: 14816", "Cost 14,816: no timetable costs less."),
-        ("kind: 'optimum', cost: 14816, bound: 14816", "Cost 14,816: no timetable costs less."),
+        ("kind: 'stopped', cost: 14816, bound: 3", "Cost 14,816, perhaps not the best (none can be below 3)"),
+        ("kind: 'stopped', cost: 9007199254740995n, bound: 9007199254740993n", "Cost 9,007,199,254,740,995, at most 0.1 % above the best (none can be below 9,007,199,254,740,993)"),
+        ("kind: 'stopped', cost: 14816, bound: 14816", "Cost 14,816: no timetable is better."),
+        ("kind: 'optimum', cost: 14816, bound: 14816", "Cost 14,816: no timetable is better."),
         ("kind: 'infeasible'", "✕ No timetable meets everything."),
     ]:
         page.again()
@@ -82,13 +82,13 @@ def answers_kept(suite: Suite, page: Hands) -> None:
     page.ask(STAND_IN.replace("ANSWERS", f"[{', '.join(answers)}]"))
     page.press("optimum")
     page.until(DONE)
-    suite.note("the best of each", {"told": "Cost 85, at most 6.3 % above the best (none can cost less than 80)"}, {"told": page.text("#found")})
+    suite.note("the best of each", {"told": "Cost 85, at most 6.3 % above the best (none can be below 80)"}, {"told": page.text("#found")})
     page.again()
     page.show({**TWO_TRAINS, "times": ""})
     page.ask(STAND_IN.replace("ANSWERS", f"[{answers[0]}, {last}, {answers[1]}]"))
     page.press("optimum")
     page.until(DONE)
-    suite.note("they meet", {"told": "Cost 85: no timetable costs less."}, {"told": page.text("#found")})
+    suite.note("they meet", {"told": "Cost 85: no timetable is better."}, {"told": page.text("#found")})
     page.again()
 
 
@@ -148,7 +148,7 @@ def adopted_meanwhile(suite: Suite, page: Hands) -> None:
             page.ask("Page.find('adopt').focus()")
             page.type("\n")
         cost = page.text("#figure-cost b")
-        suite.holds(f"{by}: adopted", page.ask("Page.session.place") == 1 and page.said() == f"adopted: the best that was found, cost {cost}")
+        suite.holds(f"{by}: adopted", page.ask("Page.session.place") == 1 and page.said() == f"taken over: the best that was found, cost {cost}")
         suite.holds(f"{by}: it goes on", page.is_shown("stop"))
         came = page.ask(OFFERED)
         if came.pop("found").startswith(f"Cost {cost},"):
@@ -230,7 +230,7 @@ def in_numbers(suite: Suite, page: Hands) -> None:
     """What is told in numbers is what the line `optimum` tells."""
     none = {**TWO_TRAINS, "times": "", "activities": "1; 1; 2; 3; 3; 2\n2; 2; 1; 4; 6; 1\n"}
     for texts, told, lines in [
-        ({**TWO_TRAINS, "times": ""}, "Cost 4: no timetable costs less.", ["optimum 4 2", "1 0", "2 4"]),
+        ({**TWO_TRAINS, "times": ""}, "Cost 4: no timetable is better.", ["optimum 4 2", "1 0", "2 4"]),
         (none, "✕ No timetable meets everything.", ["infeasible"]),
     ]:
         page.again()

@@ -43,7 +43,7 @@ def played(suite: Suite, page: Hands) -> None:
         lines = f"{TWO_EVENTS}add activity 1 1 2 3 3 2\nadd activity 2 2 1 3 3 1\nadopt\n"
         page.drop(*placed(folder, {"lines": lines, "period": "10"}))
         page.until("Page.find('opening').open")
-        suite.note("one that finds none", {"told": "adopt: refused 12 infeasible"}, {"told": page.opening()["told"]})
+        suite.note("one that finds none", {"told": "no timetable meets everything"}, {"told": page.opening()["told"]})
 
 
 def commands(suite: Suite, page: Hands) -> None:

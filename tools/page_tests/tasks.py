@@ -270,7 +270,7 @@ def why_mended(suite: Suite, page: Hands) -> None:
     lines, is_infeasible = compared(suite, page, "learn why none exists, mend it", by_mouse, by_keys)
     page.press("optimum")
     page.until(DONE)
-    suite.holds("then there is one", len(lines) == 1 and not is_infeasible and "no timetable costs less" in page.text("#found"))
+    suite.holds("then there is one", len(lines) == 1 and not is_infeasible and "no timetable is better" in page.text("#found"))
 
 
 def connected(suite: Suite, page: Hands) -> None:

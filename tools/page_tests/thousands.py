@@ -15,7 +15,7 @@ TIMES = "Object.fromEntries([...Page.view.times].map(([event, time]) => [event, 
 # The bounds that a search tells.
 BOUNDS = """window.bounds = [];
 new MutationObserver(() => {
-    const [, bound] = /less than ([0-9,]+)/.exec(Page.find('found').textContent) || [];
+    const [, bound] = /none can be below ([0-9,]+)/.exec(Page.find('found').textContent) || [];
     if (bound) window.bounds.push(Number(bound.replace(/,/g, '')));
 }).observe(Page.find('found'), { childList: true, characterData: true, subtree: true })"""
 

@@ -69,14 +69,14 @@ def shortcuts(suite: Suite, page: Hands) -> None:
 def typed(suite: Suite, page: Hands) -> None:
     """What is typed for minutes may be a time of the clock, and is no other number than that."""
     for period, field, text, line, said in [
-        ("1440", "#time-at", "6:15", "time 1 375", "time 1 375"),
-        ("1440", "#hold-first", "23:05", "window 1 1385 1", "window 1 1385 1"),
-        ("1440", "#hold-length", "1:30", "window 1 0 90", "window 1 0 90"),
-        ("1440", '[data-activity="1"] [aria-label$="most minutes"]:not(.grip)', "1:05", "span 1 3 65", "span 1 3 65"),
-        ("60", "#time-at", ":07", "time 1 7", "time 1 7"),
-        ("60", "#time-at", "6:15", None, "time 1 375 — refused 4 time 375 is out of range"),
-        ("60", "#time-at", "6.15", None, "time 1 6.15 — fault word 3 is not a number"),
-        ("60", '[aria-label$="minute of slack"]', "6:15", None, "weight 1 6:15 — fault word 3 is not a number"),
+        ("1440", "#time-at", "6:15", "time 1 375", "M to Benton leaves Ashford at 6:15"),
+        ("1440", "#hold-first", "23:05", "window 1 1385 1", "M to Benton leaves Ashford: held at 23:05"),
+        ("1440", "#hold-length", "1:30", "window 1 0 90", "M to Benton leaves Ashford: held from 0:00 to 1:29"),
+        ("1440", '[data-activity="1"] [aria-label$="most minutes"]:not(.grip)', "1:05", "span 1 3 65", "run of M from Ashford to Benton: 0:03 to 1:05 h, was 3 to 5"),
+        ("60", "#time-at", ":07", "time 1 7", "M to Benton leaves Ashford at :07"),
+        ("60", "#time-at", "6:15", None, "M to Benton leaves Ashford: minute 375 is beyond the period"),
+        ("60", "#time-at", "6.15", None, "M to Benton leaves Ashford: “6.15” is no whole number"),
+        ("60", '[aria-label$="minute of slack"]', "6:15", None, "run of M from Ashford to Benton: “6:15” is no whole number"),
     ]:
         page.show({**TWO_TRAINS, "period": period})
         page.fill(field, f"{text}\n")
@@ -168,7 +168,7 @@ def edited(suite: Suite, page: Hands) -> None:
     page.until("!Page.find('stop').hidden && /^Cost/.test(Page.find('found').textContent)")
     page.drag([page.minute(1, 20), page.minute(1, 30)])
     told = page.said()
-    word = "fix 1 30 — the search has ended with it; the timetable of cost "
+    word = "event 1: held at :30 — the search has ended with it; the timetable of cost "
     suite.holds(f"a word on the search: {told}", told.startswith(word))
     came = {"adopt": page.is_shown("adopt"), "found": page.text("#found")}
     suite.note("nothing is offered", {"adopt": False, "found": ""}, came)
@@ -182,7 +182,7 @@ def edited(suite: Suite, page: Hands) -> None:
 
 
 def compared(suite: Suite, page: Hands) -> None:
-    """Of several answers the best is kept, and one that is dearer than the timetable shown is offered with that word."""
+    """Of several answers the best is kept, and one that is worse than the timetable shown is offered with that word."""
     page.again()
     page.show({**TWO_TRAINS, "times": ""})
     better, worse = ["{ kind: 'stopped', cost: %d, times: [[1, 0], [2, %d]] }" % each for each in [(4, 4), (5, 5)]]
@@ -190,7 +190,7 @@ def compared(suite: Suite, page: Hands) -> None:
     page.press("optimum")
     page.until(DONE)
     told, took = page.text("#found"), page.text("#clock")
-    suite.holds(f"the best of two: {told}, {took}", told == "Cost 4, perhaps not the best" and took.startswith("after 20 cases, "))
+    suite.holds(f"the best of two: {told}, {took}", told == "Cost 4, perhaps not the best" and took.startswith("after 20 attempts, "))
     page.press("optimum")
     page.ask(STAND_IN.replace("ANSWERS", f"[{worse}]"))
     page.until(DONE)
@@ -203,8 +203,8 @@ def compared(suite: Suite, page: Hands) -> None:
     page.press("optimum")
     page.until(DONE)
     came = {"told": page.text("#compared"), "button": page.text("#adopt")}
-    wanted = {"told": "✕ dearer than the timetable shown (4)", "button": "Adopt the dearer one"}
-    suite.note("a dearer one", wanted, came)
+    wanted = {"told": "✕ worse than the timetable shown (4)", "button": "Take the worse one over"}
+    suite.note("a worse one", wanted, came)
     page.again()
 
 

@@ -9,7 +9,7 @@ from tests.harness import Suite
 
 TABS = ("diagram", "corridor", "netgraph", "station", "tables", "compare", "violated", "lines", "why", "gains")
 # Words of the program and of its commands, which are none of a planner.
-FOREIGN = re.compile(r"\b(domains?|nodes?|residues?|tensions?|dump|journal|(?:lines?) of commands|more lines)\b", re.I)
+FOREIGN = re.compile(r"\b(domains?|nodes?|residues?|tensions?|dump|journal|(?:lines?) of commands|more lines|narrowed|cases?|drawn|adopt\w*|spans?)\b", re.I)
 # All texts that are seen, told or shown on a pointer.
 TEXTS = """[document.body.innerText, ...[...document.querySelectorAll('[title], [aria-label], [placeholder], [aria-valuetext]')].flatMap(each =>
     ['title', 'aria-label', 'placeholder', 'aria-valuetext'].map(name => each.getAttribute(name) || ''))].join('\\n')"""
@@ -35,7 +35,7 @@ def help_on_numbers(suite: Suite, page: Hands) -> None:
     suite.note("numbers", {"without help": []}, {"without help": page.ask(near)})
     shown = "document.querySelector('#helping').matches(':popover-open') ? document.querySelector('#helping b').textContent : ''"
     for name, title in [
-        ("size", "The network"), ("cost", "Cost"), ("violated", "Violated"), ("narrowed", "Narrowed"), ("cases", "Cases"),
+        ("size", "The network"), ("cost", "Cost"), ("violated", "Violated"), ("limited", "Limited"), ("attempts", "Attempts"),
         ("minutes", "Minutes"), ("activity", "Activities"),
     ]:
         page.click(*page.middle(f"[data-help={name}]"))
@@ -51,10 +51,10 @@ def help_on_numbers(suite: Suite, page: Hands) -> None:
     page.key("Escape", 27)
     page.resize(390, 800)
     touch(page)
-    tap(page, page.middle("[data-help=narrowed]"))
+    tap(page, page.middle("[data-help=limited]"))
     left, _, width, _ = page.box("#helping")
     is_seen = left >= 0 and left + width <= 390
-    suite.note("a tap", {"title": "Narrowed", "is seen": True}, {"title": page.ask(shown), "is seen": is_seen})
+    suite.note("a tap", {"title": "Limited", "is seen": True}, {"title": page.ask(shown), "is seen": is_seen})
     touch(page, is_on=False)
     page.key("Escape", 27)
     page.resize(1440, 900)

@@ -14,7 +14,7 @@ from paging.tree import LIBRARY, MADE, PAGE, TOP, NotMade, below
 def sources() -> List[str]:
     """What the page is made of, by paths from the top."""
     crates = [f"crates/{name}/{part}" for name in [LIBRARY, *below(LIBRARY)] for part in ("src", "specs")]
-    return ["crates.txt", "page", "tools/page", "tools/paging", *crates]
+    return ["crates.txt", "page", "python/pespbench/VERSION", "tools/page", "tools/paging", *crates]
 
 
 def changed_at(paths: Sequence[str]) -> float:

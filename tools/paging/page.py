@@ -9,9 +9,9 @@ from typing import Callable, Dict, Match, Set
 
 from paging.modules import joined, scripts
 from paging.packing import unpacked
-from paging.tree import NotMade, run
+from paging.tree import VERSION, NotMade, run
 
-LINE = re.compile(r"^[ \t]*<!-- (?:(style|script|modules): (\S+)|(module)) -->[ \t]*$", re.M)
+LINE = re.compile(r"^[ \t]*<!-- (?:(style|script|modules): (\S+)|(module|version)) -->[ \t]*$", re.M)
 # A script that runs; one of modules says which is the last of them.
 SCRIPT = re.compile(r"<script(?: data-modules=\w+)?>(.*?)</script>", re.S)
 POLICY = re.compile(r'<meta http-equiv="Content-Security-Policy" content="([^"]*)">')
@@ -34,10 +34,10 @@ def short_style(text: str) -> str:
 
 
 def short_script(text: str) -> str:
-    """A script without comments and needless blanks; its names stay. Raises NotMade."""
+    """A script without comments and needless blanks, in shorter statements; its names stay. Raises NotMade."""
     if not shutil.which("esbuild"):
         raise NotMade("there is no esbuild (Debian's package esbuild)")
-    words = ["esbuild", "--minify-whitespace", "--charset=utf8", "--legal-comments=none", "--log-level=warning"]
+    words = ["esbuild", "--minify-whitespace", "--minify-syntax", "--charset=utf8", "--legal-comments=none", "--log-level=warning"]
     return run(words, input=text.encode()).decode()
 
 
@@ -61,10 +61,12 @@ def source(folder: pathlib.Path, kind: str, name: str) -> str:
 
 
 def part(folder: pathlib.Path, found: Match[str], module: str, there: Set[str]) -> str:
-    """What stands for a line of the kind `<!-- style: FILE -->`, `<!-- script: FILE -->`, `<!-- modules: NAME -->` or
-    `<!-- module -->`. Modules are those of script/NAME.js that are not there yet."""
-    kind, name, is_module = found.groups()
-    if is_module:
+    """What stands for a line of the kind `<!-- style: FILE -->`, `<!-- script: FILE -->`, `<!-- modules: NAME -->`,
+    `<!-- module -->` or `<!-- version -->`. Modules are those of script/NAME.js that are not there yet."""
+    kind, name, which = found.groups()
+    if which == "version":
+        return f'Version <span id="version">{VERSION.read_text().strip()}</span>.'
+    if which:
         return f'<script>const PESPBENCH_MODULE = "{module}";</script>'
     if kind == "modules":
         text = joined(scripts(folder / "script"), name, there)

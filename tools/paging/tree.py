@@ -9,6 +9,7 @@ from typing import Any, Dict, List, Sequence
 TOP = pathlib.Path(__file__).resolve().parents[2]
 PAGE = TOP / "page"
 MADE = PAGE / "pespbench.html"
+VERSION = TOP / "python/pespbench/VERSION"
 LIBRARY = "pesp_embedded"
 
 

@@ -17,11 +17,11 @@ export const noLabels = () => ({ events: new Map(), kinds: new Map(), cost: '' }
 // The labels of a file. Raises FileFault.
 export const readLabels = text => {
   const labels = noLabels();
-  let part = '';
+  let table = '';
   for (const { number, fields } of recordsOf(text)) {
-    if (WIDTHS.has(fields[0])) part = fields[0];
+    if (WIDTHS.has(fields[0])) table = fields[0];
     else if (fields[0] === 'cost') takeCost(labels, number, fields);
-    else takeRow(labels, part, number, fields);
+    else takeRow(labels, table, number, fields);
   }
   return labels;
 };
@@ -37,16 +37,16 @@ const takeCost = (labels, record, fields) => {
   labels.cost = fields[1] || '';
 };
 
-const takeRow = (labels, part, record, fields) => {
+const takeRow = (labels, table, record, fields) => {
   const fail = what => { throw new FileFault('labels', record, what); };
-  if (!part) fail('there is no header `event; line; to; station; kind` or `activity; kind` above it');
-  const number = numberIn('labels', record, 1, fields[0], EVENTS), taken = part === 'event' ? labels.events : labels.kinds;
-  if (taken.has(number)) fail(`${part} is repeated`);
+  if (!table) fail('there is no header `event; line; to; station; kind` or `activity; kind` above it');
+  const number = numberIn('labels', record, 1, fields[0], EVENTS), taken = table === 'event' ? labels.events : labels.kinds;
+  if (taken.has(number)) fail(`${table} is repeated`);
   if (taken.size === MOST_ROWS) fail(`more than ${MOST_ROWS.toLocaleString('en')} rows of this kind`);
-  if (fields.slice(WIDTHS.get(part)).some(field => field)) fail('wrong number of fields');
+  if (fields.slice(WIDTHS.get(table)).some(field => field)) fail('wrong number of fields');
   checkLengths('labels', record, fields);
   const [, first = '', to = '', station = '', kind = ''] = fields;
-  taken.set(number, part === 'event' ? { line: first, to, station, kind } : first);
+  taken.set(number, table === 'event' ? { line: first, to, station, kind } : first);
 };
 
 export const quoted = field => /[;"\n\r]|^[ \t#]|[ \t]$/.test(field) ? `"${field.replace(/"/g, '""')}"` : field;

@@ -21,19 +21,19 @@ export const readNetwork = reply => {
   return network;
 };
 
-// The parts into which joined events divide all events, where none is to have more than so many.
-export const partsOf = (events, joins, most = Infinity) => {
-  const parts = new Map([...events].map(event => [event, [event]]));
+// The components into which joined events divide all events, where none is to have more than so many.
+export const componentsOf = (events, joins, most = Infinity) => {
+  const components = new Map([...events].map(event => [event, [event]]));
   for (const { first, last } of joins) {
-    let [larger, smaller] = [parts.get(first), parts.get(last)];
+    let [larger, smaller] = [components.get(first), components.get(last)];
     if (larger === smaller || larger.length + smaller.length > most) continue;
     if (larger.length < smaller.length) [larger, smaller] = [smaller, larger];
     for (const event of smaller) {
       larger.push(event);
-      parts.set(event, larger);
+      components.set(event, larger);
     }
   }
-  return new Set(parts.values());
+  return new Set(components.values());
 };
 
 // The events that some activity names.

@@ -11,11 +11,13 @@ import {
 } from './replies.js';
 import { isAdopt, timesOfFile } from './times.js';
 
-// A run or a session that ended by a fault; its message is the program's text. `isWanting` where memory is wanted.
+// A run or a session that ended by a fault; its message is the program's text. `isWanting` where memory is wanted; `refused` has a line
+// that was refused, with the reply and perhaps the network.
 export class RunFault extends Error {
-  constructor(message, isWanting = false) {
+  constructor(message, isWanting = false, refused = null) {
     super(message);
     this.isWanting = isWanting;
+    this.refused = refused;
   }
 }
 
@@ -30,8 +32,8 @@ export const run = (base, lines) => {
 };
 
 // Raises RunFault where a line was refused.
-const isDone = (line, reply) => {
-  if (reply[0] !== 'ok') throw new RunFault(`${line}: ${reply[0]}`);
+const isDone = (line, reply, network = null) => {
+  if (reply[0] !== 'ok') throw new RunFault(`${line}: ${reply[0]}`, false, { line, reply: reply[0], network });
 };
 
 /** What a session tells, where it is no fault.
@@ -101,15 +103,15 @@ export const openFirst = base => {
   const session = sessionOf(base), networkNow = () => readNetwork(session.ask('dump'));
   return prepared(session, () => {
     const filed = networkNow(), before = base.times ? timesOfFile(base, filed.events) : new Map();
-    const edits = base.setup.flatMap(line => doneFirst(session, line));
+    const edits = base.setup.flatMap(line => doneFirst(session, line, networkNow));
     const { times } = follow({ network: filed, times: before }, edits);
     return { session, network: edits.length ? networkNow() : filed, times };
   });
 };
 
-// Has a session do a line, and gives the edits that make the same of its network and times.
-const doneFirst = (session, line) => {
-  const found = isAdopt(line) ? readFound(session.ask('optimum')) : null;
-  isDone(line, session.ask(line));
+// Has a session do a line, and gives the edits that make the same of its network and times. Raises RunFault, with the network then.
+const doneFirst = (session, line, networkNow) => {
+  const found = isAdopt(line) ? readFound(session.ask('optimum')) : null, reply = session.ask(line);
+  isDone(line, reply, reply[0] === 'ok' ? null : networkNow());
   return found ? timeEdits(found.times) : [readEdit(line)];
 };

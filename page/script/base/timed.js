@@ -24,4 +24,4 @@ export const untimedText = ({ network: { events }, times }) => {
 };
 
 // The same for a drawing of trains.
-export const undrawnText = view => view.missing ? `Trains are drawn between events with times: ${untimedText(view)}.` : '';
+export const undrawnText = view => view.missing ? `Trains are shown between events with times: ${untimedText(view)}.` : '';

@@ -11,7 +11,7 @@ const lengthsOf = ({ domains }) => {
 export const isInfeasible = view => lengthsOf(view).includes(0);
 
 // How many events can be at fewer minutes than all.
-export const countNarrowed = view => lengthsOf(view).filter(length => length < view.network.period).length;
+export const countLimited = view => lengthsOf(view).filter(length => length < view.network.period).length;
 
 // How many activities and events are violated, of those that have times; null where nothing is known of that.
 export const countViolated = ({ violations }) => violations && violations.activities.size + violations.events.size;

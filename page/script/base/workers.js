@@ -19,11 +19,11 @@ export const startWorker = hear => {
 // nothing of it is heard any more.
 export const soleWorker = () => {
   let worker = null, asked = null;
-  const hear = told => {
-    if (!asked || (told.id !== undefined && told.id !== asked.id)) return;
+  const hear = answer => {
+    if (!asked || (answer.id !== undefined && answer.id !== asked.id)) return;
     const { tell } = asked;
-    if (told.isDone) asked = null;
-    tell(told);
+    if (answer.isDone) asked = null;
+    tell(answer);
   };
   const leave = () => {
     if (asked) worker.postMessage({ kind: 'rest' });

@@ -2,7 +2,7 @@
 // red text lies, and else with a mark.
 
 import { isApart, PARTS, spotsOf } from './apart.js';
-import { conflictsOf, shortConflicts, toldConflicts } from '../session/conflicts.js';
+import { conflictsOf, detailsOf, shortConflicts } from '../session/conflicts.js';
 import { drawing, setAttribute } from '../base/elements.js';
 import { labelOf } from '../session/names.js';
 
@@ -25,18 +25,18 @@ const draw = (alarm, conflicts, taken) => {
   if (alarm.drawn === drawn) return;
   alarm.drawn = drawn;
   shape.classList.toggle('broken', Boolean(text));
-  label.replaceChildren(text, drawing('title', {}, toldConflicts(conflicts)));
+  label.replaceChildren(text, drawing('title', {}, detailsOf(conflicts)));
   setAttribute(label, 'data-activity', text ? conflicts[0].number : null);
   setAttribute(label, 'x', text === whole ? place.x : alarm.place.x);
 };
 
-// Draws what is new of alarms, of lanes by the events that leave on them, and of stations; `drawn` are those that are red.
-export const drawAlarms = (view, { lanes, stations, drawn }) => {
+// Draws what is new of alarms, of the lines of tracks by the events that leave on them, and of stations; `drawn` are those that are red.
+export const drawAlarms = (view, { trackLines, stations, drawn }) => {
   const found = new Map([...drawn].map(alarm => [alarm, []])), taken = [];
   drawn.clear();
   for (const conflict of conflictsOf(view).all) {
     const { first, last } = conflict.activity, [from, to] = [first, last].map(event => labelOf(event).station);
-    const alarm = (from !== to && lanes.get(first)) || stations.get(from) || stations.get(to);
+    const alarm = (from !== to && trackLines.get(first)) || stations.get(from) || stations.get(to);
     if (!alarm) continue;
     if (!found.has(alarm)) found.set(alarm, []);
     found.get(alarm).push(conflict);

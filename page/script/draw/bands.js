@@ -1,14 +1,14 @@
 // Headways as bands: the minutes after a train in which no other one may follow it, all along its run.
 
+import { display } from '../session/display.js';
 import { drawing } from '../base/elements.js';
 import { pathsOf } from './frames.js';
 import { labelOf, minutesText, trainName } from '../session/names.js';
-import { shown } from '../session/shown.js';
 
 const FLAT = 5;
 
 const isHeadway = ({ number, first, last }) => {
-  const kind = shown.labels.kinds.get(number) || '', [one, other] = [labelOf(first), labelOf(last)];
+  const kind = display.labels.kinds.get(number) || '', [one, other] = [labelOf(first), labelOf(last)];
   return kind === 'headway' || (!kind && one.station && one.station === other.station && one.kind === other.kind);
 };
 

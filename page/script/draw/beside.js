@@ -2,14 +2,14 @@
 
 import { isAlarming } from '../session/conflicts.js';
 import { connectionsOf, takesText } from './connections.js';
+import { display, within } from '../session/display.js';
 import { element, elided, rowOf, tableOf } from '../base/elements.js';
 import { frameOf, heightOf, sheetOf, waysOf } from './frames.js';
 import { conflictMarks, marked } from './marking.js';
 import { labelOf, signedMinutes, trainName } from '../session/names.js';
-import { shown, within } from '../session/shown.js';
 import { piecesOf, stretchOf } from './stretch.js';
 import { minuteText } from './tables.js';
-import { timedParts } from '../session/trains.js';
+import { timedPieces } from '../session/trains.js';
 
 const LOOKS = [{ width: 1.8, dashes: '5 4' }, { width: 2.6, dashes: null }], MOST_ROWS = 300;
 
@@ -19,13 +19,13 @@ const lineIn = (view, name) => view.lines.find(line => line.name === name);
 const drawSide = (view, frame, line, name, look) => within(view, () => {
   const known = new Set(frame.heights.keys()), trains = line ? line.trains.flatMap(train => piecesOf(train, known)) : [];
   const here = { ...frame, events: new Set(trains.flatMap(train => train.events)) };
-  const ways = trains.flatMap(whole => timedParts(view, whole)).flatMap(({ train, minutes }) => {
+  const paths = trains.flatMap(whole => timedPieces(view, whole)).flatMap(({ train, minutes }) => {
     const points = minutes.map((minute, place) => [minute, heightOf(frame, train.events[place])]);
     return marked(waysOf(frame, points, line.color, look.width, look.dashes), { 'data-event': train.events[0] });
   });
-  const { ways: broken, labels } = conflictMarks(view, here, 'on the line', []);
+  const { paths: broken, labels } = conflictMarks(view, here, 'on the line', []);
   for (const label of labels) label.prepend(`${name}: `);
-  return { ways: [...ways, ...broken], labels };
+  return { paths: [...paths, ...broken], labels };
 });
 
 // A line of both sides, each { name, view }, in one drawing: the first dashed, the second whole; null where it has no way.
@@ -33,11 +33,11 @@ export const besideDiagram = (sides, name) => {
   const lines = sides.map(({ view }) => lineIn(view, name)), [longest] = lines.filter(Boolean).sort((one, other) => other.stations.length - one.stations.length);
   const of = sides[lines.indexOf(longest)].view;
   if (longest.stations.length < 2) return null;
-  const line = within(of, () => stretchOf(longest, shown.chosen).line), frame = within(of, () => frameOf(line, of.network));
+  const line = within(of, () => stretchOf(longest, display.chosen).line), frame = within(of, () => frameOf(line, of.network));
   const { page, clip } = sheetOf(frame, `Distance-time diagram of ${name} in ${sides.map(side => side.name).join(' and ')}`);
   sides.forEach(({ view, name: side }, place) => {
-    const { ways, labels } = drawSide(view, frame, lines[place], side, LOOKS[place]);
-    clip.append(...ways);
+    const { paths, labels } = drawSide(view, frame, lines[place], side, LOOKS[place]);
+    clip.append(...paths);
     page.append(...labels);
   });
   return page;
@@ -50,8 +50,8 @@ const cell = (sides, event, look) => {
   const [one, other] = sides.map(side => minuteIn(side, event)), isMoved = one !== other;
   const isBroken = event !== null && sides.some(({ view }) => view.domains.has(event) && isAlarming(view, event));
   const names = [look, isMoved ? 'moved' : '', isBroken ? 'alarm' : ''].filter(Boolean).join(' ');
-  const parts = isMoved ? [element('s', {}, one || '–'), ' ', element('b', {}, other || '–')] : [one];
-  return element('td', { class: names, 'data-event': event }, ...parts);
+  const texts = isMoved ? [element('s', {}, one || '–'), ' ', element('b', {}, other || '–')] : [one];
+  return element('td', { class: names, 'data-event': event }, ...texts);
 };
 
 // The trains of a line in both sides; one that both have, by its first event, stands there once.
@@ -89,9 +89,9 @@ const connectionRow = (sides, taken, number) => {
 export const besideConnections = sides => {
   const taken = sides.map(takesIn), numbers = [...new Set(taken.flatMap(each => [...each.keys()]))];
   const isOther = number => (taken[0].get(number) || NONE).text !== (taken[1].get(number) || NONE).text, other = numbers.filter(isOther);
-  const same = numbers.length - other.length, told = elided(other.length, MOST_ROWS, 'connections');
+  const same = numbers.length - other.length, note = elided(other.length, MOST_ROWS, 'connections');
   const heads = ['station', 'from', 'into', ...sides.map(({ name }) => `takes in ${name}`), 'change'];
   const rows = other.slice(0, MOST_ROWS).map(number => connectionRow(sides, taken, number));
   const words = other.length ? `${same} take the same in both.` : same ? `All ${same} take the same in both.` : 'There are none.';
-  return [rows.length ? tableOf('times', heads, rows) : null, element('p', { class: 'quiet' }, [told, words].filter(Boolean).join(' '))].filter(Boolean);
+  return [rows.length ? tableOf('times', heads, rows) : null, element('p', { class: 'quiet' }, [note, words].filter(Boolean).join(' '))].filter(Boolean);
 };

@@ -78,8 +78,8 @@ const matrixOf = (view, station, events) => {
   const found = connectionsOf(view).filter(({ first }) => labelOf(first).station === station), ends = [true, false].map(isFirst => events.filter(event => isArrival(event) === isFirst));
   const [rows, columns] = ends.map(each => each.slice(0, MOST_CELLS)), nameOf = event => `${trainName(labelOf(event))} ${minuteText(view, event)}`;
   if (!rows.length || !columns.length) return [];
-  const told = elided(Math.max(...ends.map(({ length }) => length)), MOST_CELLS, 'arrivals and departures');
-  return [element('h3', {}, 'Connections: minutes had of those wanted'), told && element('p', {}, told),
+  const note = elided(Math.max(...ends.map(({ length }) => length)), MOST_CELLS, 'arrivals and departures');
+  return [element('h3', {}, 'Connections: minutes had of those wanted'), note && element('p', {}, note),
     tableOf('times', ['from ↓ into →', ...columns.map(nameOf)], rows.map(from => rowOf(nameOf(from), columns.map(to => cellOf(view, from, to, found)))))];
 };
 

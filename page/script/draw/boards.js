@@ -1,12 +1,12 @@
 // The view of a station's board: of one that is typed, or whose name is clicked twice anywhere, or that of the chosen event.
 
 import { boardOf } from './board.js';
+import { display } from '../session/display.js';
 import { find } from '../base/elements.js';
 import { isField } from '../forms/fields.js';
 import { fillFinder } from './finder.js';
 import { matches } from './finding.js';
 import { labelOf } from '../session/names.js';
-import { shown } from '../session/shown.js';
 import { isTab, showTab } from '../session/tabs.js';
 
 // The station that is shown, and that whose name was clicked last.
@@ -18,7 +18,7 @@ const showBoard = station => {
   showTab('station');
 };
 
-const showBoardHere = () => showBoard(labelOf(shown.chosen).station);
+const showBoardHere = () => showBoard(labelOf(display.chosen).station);
 
 // The station whose name something is; '' where it is none.
 const namedBy = node => {
@@ -29,7 +29,7 @@ const namedBy = node => {
 export const boardsPanel = {
   begin: () => { chosen = ''; },
   update: view => {
-    const { station } = labelOf(shown.chosen), named = chosen || station;
+    const { station } = labelOf(display.chosen), named = chosen || station;
     find('to-board').hidden = !station;
     if (isTab('station')) find('board').replaceChildren(named ? boardOf(view, named) : 'A file of labels names the stations; with it their boards are here.');
   },

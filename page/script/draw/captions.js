@@ -2,15 +2,15 @@
 
 import { beside } from './apart.js';
 
-// How high a name is, how many letters it has at most, how far apart the lanes of a track are, the room that is enough, and how far from
+// How high a name is, how many letters it has at most, how far apart the lines of a track are, the room that is enough, and how far from
 // its ring a name can take some.
 export const NAME = 14.5;
 export const LETTERS = 24;
-export const LANE = 29;
+export const LINE_STEP = 29;
 const ENOUGH = 16, FAR = 0.7 * NAME * LETTERS + 3 * NAME + ENOUGH;
 
 // How far a name has to be from the middle of a track.
-const halfOf = track => (track.lanes.length - 1) * LANE / 2 + NAME;
+const halfOf = track => (track.trackLines.length - 1) * LINE_STEP / 2 + NAME;
 
 // What lies so near to a station that it can take room of its name.
 const aboutOf = ({ places, radius, tracks }, station) => {
@@ -38,7 +38,7 @@ export const labelPlace = (graph, station) => {
 // The least distance of a name from what lies about it, up to what is enough.
 const roomOf = (graph, station, { x, base, anchor }, { tracks, places }) => {
   const [left, right] = spanOfName(station, x, anchor);
-  const spots = [0, 1, 2, 3, 4].flatMap(part => [0, 0.7].map(height => [left + (right - left) * part / 4, base - NAME * height]));
+  const spots = [0, 1, 2, 3, 4].flatMap(quarter => [0, 0.7].map(height => [left + (right - left) * quarter / 4, base - NAME * height]));
   let room = ENOUGH;
   for (const track of tracks) {
     const half = halfOf(track);

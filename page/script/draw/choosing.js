@@ -1,6 +1,7 @@
 // What is drawn in a view is chosen by a click there, and by keys: ↑ ↓ go to other events, ← → move the train of the chosen one.
 
 import { conflictsAt, shortConflicts } from '../session/conflicts.js';
+import { display } from '../session/display.js';
 import { find, setAttribute } from '../base/elements.js';
 import { bringRow, eventBeside, showRow } from '../forms/events.js';
 import { minutesOfDiagram } from '../session/extent.js';
@@ -8,7 +9,6 @@ import { minutesOn } from './frames.js';
 import { isFinger, minutesOfKey, tellHandle } from '../forms/handles.js';
 import { beginMove, moveTrain, wantsFromHere } from '../forms/moving.js';
 import { clock, eventName, labelOf } from '../session/names.js';
-import { shown } from '../session/shown.js';
 import { showActivity } from '../forms/spans.js';
 import { unfold } from '../forms/unfolding.js';
 
@@ -16,8 +16,8 @@ const DIAGRAMS = ['diagram', 'corridor'], VIEWS = [...DIAGRAMS, 'netgraph', 'boa
 
 // An event at a station: that after the chosen one, so that further clicks go round.
 const eventAt = station => {
-  const events = shown.view.trains.flatMap(train => train.events).filter(event => labelOf(event).station === station);
-  return events[(events.indexOf(shown.chosen) + 1) % events.length];
+  const events = display.view.trains.flatMap(train => train.events).filter(event => labelOf(event).station === station);
+  return events[(events.indexOf(display.chosen) + 1) % events.length];
 };
 
 // Of the two ends of a piece of a way the one that a pointer is nearer to.
@@ -68,9 +68,9 @@ const ROWS = { ArrowUp: -1, ArrowDown: 1 };
 const typed = event => {
   const minutes = event.metaKey ? 0 : minutesOfKey(event), row = ROWS[event.key], holder = event.currentTarget;
   if (event.target !== holder) return;
-  if (minutes) moveTrain(shown.chosen, minutes, wantsFromHere(event));
-  else if (row) bringRow(eventBeside(shown.chosen, row));
-  else if (event.key === 'Enter') showRow(shown.chosen);
+  if (minutes) moveTrain(display.chosen, minutes, wantsFromHere(event));
+  else if (row) bringRow(eventBeside(display.chosen, row));
+  else if (event.key === 'Enter') showRow(display.chosen);
   else return;
   event.preventDefault();
   const cell = holder.querySelector('td.chosen');
@@ -79,11 +79,11 @@ const typed = event => {
 
 // Tells a screen reader of the chosen event in a view.
 const tell = (holder, view) => {
-  const event = shown.chosen, time = view.times.get(event), broken = shortConflicts(conflictsAt(view, event));
+  const event = display.chosen, time = view.times.get(event), broken = shortConflicts(conflictsAt(view, event));
   const name = event === null ? 'no event' : `the train of ${eventName(event)}`;
-  const told = `${time === undefined ? 'no time' : clock(time)} ${broken}`, isSlider = holder.getAttribute('role') === 'slider';
-  setAttribute(holder, 'aria-label', isSlider ? name : `${name} ${told}`);
-  if (isSlider) tellHandle(holder, time || 0, 0, view.network.period - 1, told);
+  const state = `${time === undefined ? 'no time' : clock(time)} ${broken}`, isSlider = holder.getAttribute('role') === 'slider';
+  setAttribute(holder, 'aria-label', isSlider ? name : `${name} ${state}`);
+  if (isSlider) tellHandle(holder, time || 0, 0, view.network.period - 1, state);
 };
 
 export const choosingPanel = { update: view => [...DIAGRAMS, 'netgraph'].forEach(name => tell(find(name), view)) };

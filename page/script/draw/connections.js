@@ -1,8 +1,8 @@
 // Connections by station, for paper: which train passengers come from, into which they change, and how long that takes.
 
+import { display } from '../session/display.js';
 import { element, elided, rowOf, tableOf } from '../base/elements.js';
 import { labelOf, lengthText, spanText, trainName } from '../session/names.js';
-import { shown } from '../session/shown.js';
 import { minuteText } from './tables.js';
 import { minutesHad } from '../base/viewing.js';
 
@@ -10,7 +10,7 @@ const MOST_ROWS = 2000, NO_CONNECTIONS = ['headway', 'turn', 'turnaround', 'run'
 const HEADS = ['from', 'arrives', 'into', 'leaves', 'takes', 'may take'];
 
 const isConnection = ({ number, first, last }) => {
-  const [from, to] = [labelOf(first), labelOf(last)], kind = shown.labels.kinds.get(number) || '';
+  const [from, to] = [labelOf(first), labelOf(last)], kind = display.labels.kinds.get(number) || '';
   const isChange = from.kind === 'arrival' && to.kind === 'departure' && from.station !== '' && from.station === to.station;
   // Without a kind, a train of the same line turns.
   return isChange && !NO_CONNECTIONS.includes(kind) && (from.line !== to.line || (kind !== '' && from.to !== to.to));
@@ -50,7 +50,7 @@ export const connectionTables = (view, lines = view.lines) => {
     stations.set(station, [...stations.get(station) || [], each]);
   }
   if (!stations.size) return [];
-  const told = elided(all.length, MOST_ROWS, 'connections');
-  return [element('section', { class: 'connections' }, element('h2', {}, 'Connections by station'), told && element('p', {}, told),
+  const note = elided(all.length, MOST_ROWS, 'connections');
+  return [element('section', { class: 'connections' }, element('h2', {}, 'Connections by station'), note && element('p', {}, note),
     ...[...stations].map(([station, rows]) => stationTable(view, station, rows)))];
 };

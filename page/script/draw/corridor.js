@@ -1,9 +1,9 @@
-// The corridor: stations that were chosen, and those on the shortest ways between them.
+// The corridor: stations that were chosen, and those on the shortest routes between them.
 
+import { display } from '../session/display.js';
 import { say } from '../base/elements.js';
+import { neighboursOf, routeBetween } from './routes.js';
 import { redraw } from '../session/session.js';
-import { shown } from '../session/shown.js';
-import { neighboursOf, wayBetween } from './ways.js';
 
 let kept = { chosen: [], stations: [], gaps: [] };
 
@@ -14,28 +14,28 @@ export const corridor = Object.freeze({
   get gaps() { return kept.gaps; },
 });
 
-// The ways from each chosen station to the next one; a station stands there once. Where no way leads on, there is a gap.
+// The routes from each chosen station to the next one; a station stands there once. Where no way leads on, there is a gap.
 const follow = (chosen, neighbours) => {
   const stations = chosen.slice(0, 1), gaps = [];
   chosen.slice(1).forEach((station, place) => {
     if (stations.includes(station)) return;
-    const way = wayBetween(neighbours, chosen[place], station, new Set(stations.filter(each => each !== chosen[place])));
-    if (!way) gaps.push([chosen[place], station]);
-    stations.push(...way ? way.stations.slice(1) : [station]);
+    const route = routeBetween(neighbours, chosen[place], station, new Set(stations.filter(each => each !== chosen[place])));
+    if (!route) gaps.push([chosen[place], station]);
+    stations.push(...route ? route.stations.slice(1) : [station]);
   });
   return { stations, gaps };
 };
 
 const set = chosen => {
-  kept = { chosen, ...follow(chosen, chosen.length > 1 && neighboursOf(shown.view)) };
+  kept = { chosen, ...follow(chosen, chosen.length > 1 && neighboursOf(display.view)) };
 };
 
 // Takes a station in at the end to which its way is shorter.
 const added = station => {
-  const { chosen } = kept, neighbours = neighboursOf(shown.view);
+  const { chosen } = kept, neighbours = neighboursOf(display.view);
   const minutes = [chosen[0], chosen[chosen.length - 1]].map(end => {
-    const way = wayBetween(neighbours, end, station, new Set());
-    return way ? way.minutes : Infinity;
+    const route = routeBetween(neighbours, end, station, new Set());
+    return route ? route.minutes : Infinity;
   });
   return chosen.length > 1 && minutes[0] < minutes[1] ? [station, ...chosen] : [...chosen, station];
 };

@@ -1,39 +1,39 @@
 // The distance-time diagram of a line: minutes across, stations down, as far apart as trains need at least. The marks along
 // a station are the minutes at which its events can still be.
 
+import { display } from '../session/display.js';
 import { drawing, element, elided, find, renew, setAttribute, setText } from '../base/elements.js';
 import { copiesOf, frameOf, gridOf, heightOf, looksOf, TURN, waysOf } from './frames.js';
+import { drawLayer, isSame, makeLayer } from './layers.js';
 import { conflictMarks, marked, reachesOf, ringAt } from './marking.js';
 import { shiftText } from '../forms/moving.js';
 import { bareClock, labelOf, runsOf } from '../session/names.js';
 import { firstRuns } from './nearby.js';
-import { drawPart, isSame, makePart } from './parts.js';
 import { chooseLine } from '../session/session.js';
-import { shown } from '../session/shown.js';
 import { sizeNow } from '../session/sizes.js';
 import { stretchOf } from './stretch.js';
 import { isTab } from '../session/tabs.js';
 import { undrawnText } from '../base/timed.js';
-import { isForward, timedParts } from '../session/trains.js';
+import { isForward, timedPieces } from '../session/trains.js';
 import { minutesHad } from '../base/viewing.js';
 
 const TURNS = ['', 'turn', 'turnaround'], MOST_TURNS = 200, MOST_OTHERS = 2000;
 // What is drawn among the stations, from below upwards.
-const AMONG = ['possible', 'others', 'turns', 'old', 'ways', 'broken', 'reaches'];
+const AMONG = ['possible', 'others', 'turns', 'old', 'paths', 'broken', 'reaches'];
 
 // The drawing on the screen.
 let kept = null;
 
 // A drawing with nothing in it yet. Its `scene` is what steps leave as it is, for the most part.
 const emptySheet = () => {
-  const parts = Object.fromEntries(['grid', ...AMONG, 'ends'].map(name => [name, makePart()]));
-  const clip = drawing('svg', {}, ...AMONG.map(name => parts[name].node)), page = drawing('svg', {}, parts.grid.node, clip, parts.ends.node);
-  return { page, clip, parts, scene: null, fixed: page.childNodes.length };
+  const layers = Object.fromEntries(['grid', ...AMONG, 'ends'].map(name => [name, makeLayer()]));
+  const clip = drawing('svg', {}, ...AMONG.map(name => layers[name].node)), page = drawing('svg', {}, layers.grid.node, clip, layers.ends.node);
+  return { page, clip, layers, scene: null, fixed: page.childNodes.length };
 };
 
 // Where the minutes and stations of a line lie, its trains that wait there, and those of other lines.
 const sceneOf = (view, line, before, size) => {
-  const of = [line, view.lines, shown.labels, view.network.activities, view.network.period, size];
+  const of = [line, view.lines, display.labels, view.network.activities, view.network.period, size];
   if (before && isSame(before.of, of)) return before;
   return { of, line, frame: frameOf(line, view.network, size), turns: turnsOf(view, line), ...firstRuns(othersOf(view, line), MOST_OTHERS) };
 };
@@ -41,7 +41,7 @@ const sceneOf = (view, line, before, size) => {
 // The diagram of a line, and what it says of what is left out. Trains are drawn between events with times, and what is still
 // possible everywhere. Without a size it is for paper.
 export const diagramOf = (view, whole, { chosen = null, size = undefined, sheet = emptySheet() } = {}) => {
-  const { line, told } = stretchOf(whole, chosen), before = sheet.scene, scene = sceneOf(view, line, before, size), { page, clip } = sheet;
+  const { line, note } = stretchOf(whole, chosen), before = sheet.scene, scene = sceneOf(view, line, before, size), { page, clip } = sheet;
   sheet.scene = scene;
   if (scene !== before) {
     const looks = looksOf(scene.frame, `Distance-time diagram of ${line.name}`);
@@ -49,35 +49,35 @@ export const diagramOf = (view, whole, { chosen = null, size = undefined, sheet 
     for (const [name, value] of Object.entries(looks.clip)) setAttribute(clip, name, value);
   }
   const left = drawSheet(view, sheet, chosen), [waiting, beside] = view.tensions ? [scene.turns.length, scene.runs] : [0, 0];
-  return { drawn: page, told: [told, left, elided(waiting, MOST_TURNS, 'turns'), elided(beside, MOST_OTHERS, 'runs of other lines')].filter(Boolean).join(' ') };
+  return { drawn: page, note: [note, left, elided(waiting, MOST_TURNS, 'turns'), elided(beside, MOST_OTHERS, 'runs of other lines')].filter(Boolean).join(' ') };
 };
 
 // Draws what is new in a drawing, and gives what it says of what is left out.
-const drawSheet = (view, { page, parts, scene, fixed }, chosen) => {
+const drawSheet = (view, { page, layers, scene, fixed }, chosen) => {
   const { line, frame, turns } = scene, { times, tensions } = view;
-  drawPart(parts.grid, [frame], () => gridOf(frame));
-  drawPart(parts.possible, [scene, view.domains, chosen], () => possible(view, frame, line, chosen));
-  drawPart(parts.turns, [scene, times, tensions], () => tensions ? turns.filter(({ number }) => tensions.has(number)).slice(0, MOST_TURNS).flatMap(each => turn(view, frame, line, each)) : []);
-  drawTrains(view, parts, scene);
+  drawLayer(layers.grid, [frame], () => gridOf(frame));
+  drawLayer(layers.possible, [scene, view.domains, chosen], () => possible(view, frame, line, chosen));
+  drawLayer(layers.turns, [scene, times, tensions], () => tensions ? turns.filter(({ number }) => tensions.has(number)).slice(0, MOST_TURNS).flatMap(each => turn(view, frame, line, each)) : []);
+  drawTrains(view, layers, scene);
   const endTimes = line.trains.map(train => endsOf(train).map(event => times.get(event)));
-  drawPart(parts.ends, [scene, endTimes.join()], () => line.trains.flatMap(train => ends(view, frame, line, train)));
-  const { ways, labels, told } = conflictMarks(view, frame, 'on the line', [...parts.ends.node.children]);
-  renew(parts.broken.node, ways);
+  drawLayer(layers.ends, [scene, endTimes.join()], () => line.trains.flatMap(train => ends(view, frame, line, train)));
+  const { paths, labels, note } = conflictMarks(view, frame, 'on the line', [...layers.ends.node.children]);
+  renew(layers.broken.node, paths);
   renew(page, [...(chosen === null ? [] : chosenMark(view, frame, chosen)), ...labels], fixed);
-  return told;
+  return note;
 };
 
 // The trains of the line and of others, by their minutes.
-const drawTrains = (view, parts, scene) => {
+const drawTrains = (view, layers, scene) => {
   const { line, frame } = scene, isDragged = document.body.classList.contains('dragging');
-  const own = line.trains.flatMap(train => timedParts(view, train)), order = orderOf(line);
-  const beside = scene.others.flatMap(({ train, places }) => timedParts(view, train).map(part => ({ ...part, places: part.train === train ? places : placesOn(order, part.train) })));
+  const own = line.trains.flatMap(train => timedPieces(view, train)), order = orderOf(line);
+  const beside = scene.others.flatMap(({ train, places }) => timedPieces(view, train).map(piece => ({ ...piece, places: piece.train === train ? places : placesOn(order, piece.train) })));
   const [ownMinutes, minutesBeside] = [own, beside].map(trains => trains.map(({ train, minutes }) => [train.events[0], ...minutes]).join(';'));
-  drawPart(parts.others, [scene, minutesBeside, isDragged], () => beside.flatMap(each => other(frame, each)));
+  drawLayer(layers.others, [scene, minutesBeside, isDragged], () => beside.flatMap(each => other(frame, each)));
   const wayOf = ({ train, minutes }, ...look) => waysOf(frame, minutes.map((minute, place) => [minute, heightOf(frame, train.events[place])]), ...look);
-  drawPart(parts.old, [scene, view.before], () => !view.before ? [] : line.trains.flatMap(train => timedParts(view.before, train)).flatMap(part => wayOf(part, 'var(--pale)', 1.8, '6 4')));
-  drawPart(parts.ways, [scene, ownMinutes], () => own.flatMap(each => wayOf(each, line.color, 2.6)));
-  drawPart(parts.reaches, [scene, ownMinutes, isDragged], () => own.flatMap(({ train, minutes }) => reachesOf(frame, train, minutes, 14)));
+  drawLayer(layers.old, [scene, view.before], () => !view.before ? [] : line.trains.flatMap(train => timedPieces(view.before, train)).flatMap(piece => wayOf(piece, 'var(--pale)', 1.8, '6 4')));
+  drawLayer(layers.paths, [scene, ownMinutes], () => own.flatMap(each => wayOf(each, line.color, 2.6)));
+  drawLayer(layers.reaches, [scene, ownMinutes, isDragged], () => own.flatMap(({ train, minutes }) => reachesOf(frame, train, minutes, 14)));
 };
 
 // The minutes at which the events of a line can still be, where not all are possible: those of trains that go down the
@@ -109,15 +109,15 @@ const placesOn = (order, train) => {
 };
 
 const other = (frame, { train, places, minutes }) => places.flatMap(place => {
-  const way = waysOf(frame, [place, place + 1].map(each => [minutes[each], heightOf(frame, train.events[each])]), 'var(--others)', 1.4);
-  return [...way, ...reachesOf(frame, train, minutes, 8, [place])];
+  const dash = waysOf(frame, [place, place + 1].map(each => [minutes[each], heightOf(frame, train.events[each])]), 'var(--others)', 1.4);
+  return [...dash, ...reachesOf(frame, train, minutes, 8, [place])];
 });
 
 // Trains that wait between two ways, which are drawn as dashes beyond the station.
 const turnsOf = (view, line) => [...view.network.activities.values()].filter(each => {
   const [from, to] = [labelOf(each.first), labelOf(each.last)];
   const isTurn = from.line === line.name && to.line === line.name && from.station === to.station && from.to !== to.to;
-  return isTurn && line.stations.includes(from.station) && TURNS.includes(shown.labels.kinds.get(each.number) || '');
+  return isTurn && line.stations.includes(from.station) && TURNS.includes(display.labels.kinds.get(each.number) || '');
 });
 
 const turn = (view, frame, line, each) => {
@@ -151,18 +151,18 @@ const NOTE = 'Marks along a station: the minutes at which the trains of the line
 
 const update = view => {
   if (!isTab('diagram')) return;
-  const line = view.lines.find(each => each.name === shown.chosenLine) || view.lines[0], holder = find('diagram');
+  const line = view.lines.find(each => each.name === display.chosenLine) || view.lines[0], holder = find('diagram');
   find('line-of-diagram').hidden = find('alter-line').hidden = !line;
   if (!line || line.stations.length < 2) {
-    setText(find('diagram-note'), 'Add a line in Tables, or open a file of labels: then the line of the chosen event is drawn here.');
+    setText(find('diagram-note'), 'Add a line in Tables, or open a file of labels: then the line of the chosen event is shown here.');
     holder.replaceChildren();
     return;
   }
   const select = find('line-of-diagram');
   if (select.value !== line.name) select.value = line.name;
   kept = kept || emptySheet();
-  const { drawn, told } = diagramOf(view, line, { chosen: shown.chosen, size: sizeNow('diagram'), sheet: kept }), missing = undrawnText(view);
-  setText(find('diagram-note'), [told, NOTE, missing].filter(Boolean).join(' '));
+  const { drawn, note } = diagramOf(view, line, { chosen: display.chosen, size: sizeNow('diagram'), sheet: kept }), missing = undrawnText(view);
+  setText(find('diagram-note'), [note, NOTE, missing].filter(Boolean).join(' '));
   if (holder.firstChild !== drawn) holder.replaceChildren(drawn);
 };
 

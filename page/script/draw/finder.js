@@ -39,8 +39,8 @@ const look = finder => {
   Object.assign(finder, { found, at: 0 });
   const options = found.map((each, at) => element('li', { role: 'option', id: `${finder.name}-${at}`, 'data-at': at }, each.name, ' ',
     element('small', {}, each.note)));
-  const told = more ? `and ${more.toLocaleString('en')} more: type more` : found.length ? '' : 'nothing is found';
-  finder.list.replaceChildren(...options, ...(told ? [element('li', { class: 'quiet', role: 'presentation' }, told)] : []));
+  const note = more ? `and ${more.toLocaleString('en')} more: type more` : found.length ? '' : 'nothing is found';
+  finder.list.replaceChildren(...options, ...(note ? [element('li', { class: 'quiet', role: 'presentation' }, note)] : []));
   open(finder, finder.input.value.trim() !== '');
   mark(finder);
 };

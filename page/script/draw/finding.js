@@ -1,12 +1,12 @@
 // Stations, lines, trains and events by what is typed of their names: all words have to stand there, in any order, without accents.
 
+import { display } from '../session/display.js';
 import { find, say } from '../base/elements.js';
 import { showBar, showRow } from '../forms/events.js';
 import { isField } from '../forms/fields.js';
 import { fillFinder } from './finder.js';
-import { eventName, labelOf, trainName } from '../session/names.js';
+import { clock, eventName, labelOf, trainName } from '../session/names.js';
 import { lookAt } from './netgraph.js';
-import { shown } from '../session/shown.js';
 import { showTab } from '../session/tabs.js';
 
 const MOST = { station: 5, line: 5, train: 5, event: 8 };
@@ -22,14 +22,16 @@ const countsOf = events => {
   return counts;
 };
 
+const atText = event => display.view.times.has(event) ? ` at ${clock(display.view.times.get(event))}` : '';
+
 const entry = (kind, value, name, note) => ({ kind, value, name, note, folded: fold(name) });
 
 // All that can be found, gathered when something is typed first.
 const entries = ({ network, lines, trains }) => [
   ...[...countsOf(network.events)].map(([name, count]) => entry('station', name, name, `station, ${count} event${count > 1 ? 's' : ''}`)),
   ...lines.map(line => entry('line', line.name, line.name, `line, ${line.stations[0]} – ${line.stations[line.stations.length - 1]}`)),
-  ...trains.map(train => entry('train', train.events[0], trainName(train, train.events[0]), `train from ${train.stations[0]}, event ${train.events[0]}`)),
-  ...network.events.map(event => entry('event', event, eventName(event), labelOf(event).station ? `event ${event}` : '')),
+  ...trains.map(train => entry('train', train.events[0], trainName(train, train.events[0]), `train from ${train.stations[0]}${atText(train.events[0])}`)),
+  ...network.events.map(event => entry('event', event, eventName(event), atText(event).trim())),
 ];
 
 // How well some words stand in an entry, 0 best; null where one is missing.
@@ -45,7 +47,7 @@ const rankOf = ({ kind, value, folded }, words) => {
 export const matches = (text, kinds) => {
   const words = fold(text).split(/\s+/).filter(Boolean);
   if (!words.length) return { found: [], more: 0 };
-  known = known || entries(shown.view);
+  known = known || entries(display.view);
   const ranked = known.filter(({ kind }) => kinds.includes(kind)).map(each => ({ each, rank: rankOf(each, words) }))
     .filter(({ rank }) => rank !== null);
   ranked.sort((one, other) => one.rank - other.rank);
@@ -54,10 +56,10 @@ export const matches = (text, kinds) => {
   return { found: found.map(({ each }) => each), more: ranked.length - found.length };
 };
 
-const firstAt = station => shown.view.network.events.find(event => labelOf(event).station === station);
+const firstAt = station => display.view.network.events.find(event => labelOf(event).station === station);
 
 const showLine = name => {
-  showRow(shown.view.lines.find(line => line.name === name).trains[0].events[0]);
+  showRow(display.view.lines.find(line => line.name === name).trains[0].events[0]);
   showTab('diagram');
 };
 

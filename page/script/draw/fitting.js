@@ -40,7 +40,7 @@ export const zoomMap = (factor, x, y) => {
   zoom = Math.min(MOST, Math.max(Math.min(1, whole / plain), zoom * factor));
   if (zoom === last) return false;
   fitMap();
-  const after = page.getBoundingClientRect(), parts = [(x - before.left) / before.width, (y - before.top) / before.height];
-  holder.scrollBy(after.left + parts[0] * after.width - x, after.top + parts[1] * after.height - y);
+  const after = page.getBoundingClientRect(), fractions = [(x - before.left) / before.width, (y - before.top) / before.height];
+  holder.scrollBy(after.left + fractions[0] * after.width - x, after.top + fractions[1] * after.height - y);
   return true;
 };

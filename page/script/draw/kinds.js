@@ -1,9 +1,12 @@
 // The activities of each kind for a report, dearest first, with their share of the cost.
 
+import { costName } from '../session/costs.js';
 import { drawing, element, elided, rowOf, tableOf } from '../base/elements.js';
 import { activityName, lengthText, spanText } from '../session/names.js';
 
-const HEADS = ['Activity', 'no.', 'span', 'takes', 'slack', 'weight', 'cost'], MOST_ROWS = 5000, BAR = 120;
+const MOST_ROWS = 5000, BAR = 120;
+
+const heads = () => ['Activity', 'no.', 'may take', 'takes', 'slack', 'weight', costName()];
 
 const costOf = (view, { number, weight }) => view.tensions ? BigInt(weight) * BigInt(view.tensions.get(number).slack) : 0n;
 
@@ -21,9 +24,9 @@ const kindsOf = view => {
 };
 
 const share = (cost, total) => {
-  const part = total ? Number(cost) / Number(total) : 0, look = { x: 0, y: 0, height: 10 };
-  return drawing('svg', { class: 'share', viewBox: `0 0 ${BAR} 10`, role: 'img', 'aria-label': `${Math.floor(100 * part)} per cent` },
-    drawing('rect', { ...look, width: BAR, fill: 'var(--track)' }), drawing('rect', { ...look, width: BAR * part, fill: 'var(--bar-edge)' }));
+  const fraction = total ? Number(cost) / Number(total) : 0, look = { x: 0, y: 0, height: 10 };
+  return drawing('svg', { class: 'share', viewBox: `0 0 ${BAR} 10`, role: 'img', 'aria-label': `${Math.floor(100 * fraction)} per cent` },
+    drawing('rect', { ...look, width: BAR, fill: 'var(--track)' }), drawing('rect', { ...look, width: BAR * fraction, fill: 'var(--bar-edge)' }));
 };
 
 const row = (view, { each, cost }) => {
@@ -39,8 +42,8 @@ export const kindTables = view => {
   const rows = kinds.map(({ name, rows: all, cost }) => rowOf(name, [all.length.toLocaleString('en'), cost.toLocaleString('en'), element('td', {}, share(cost, total))]));
   const listed = kinds.flatMap(({ name, rows: all }) => [element('h3', {}, `${name.slice(0, 1).toUpperCase()}${name.slice(1)}`),
     element('p', { class: 'quiet' }, elided(all.length, MOST_ROWS, 'activities')),
-    tableOf('times listed', HEADS, all.slice(0, MOST_ROWS).map(each => row(view, each)))]);
+    tableOf('times listed', heads(), all.slice(0, MOST_ROWS).map(each => row(view, each)))]);
   return [element('section', { id: 'activities-by-kind', class: 'part' }, element('h2', {}, 'Activities by kind'),
-    element('p', { class: 'quiet' }, 'The slack is what an activity takes above its least minutes, and its cost is weight times slack. Dearest first.'),
-    tableOf('times listed', ['Kind', 'number', 'cost', 'share of the cost'], rows), ...listed)];
+    element('p', { class: 'quiet' }, `The slack is what an activity takes above its least minutes; its weight times its slack is its part of the ${costName()}. Most first.`),
+    tableOf('times listed', ['Kind', 'number', costName(), `share of the ${costName()}`], rows), ...listed)];
 };

@@ -1,7 +1,7 @@
 // What is drawn upon a diagram: what can be taken hold of, unseen and wider than what is drawn, and what is violated, in red with
 // the minutes had and wanted.
 
-import { conflictsOf, isOutside, outsideText, toldConflicts } from '../session/conflicts.js';
+import { conflictsOf, detailsOf, isOutside, outsideText } from '../session/conflicts.js';
 import { drawing, elided } from '../base/elements.js';
 import { copiesOf, heightOf, waysOf } from './frames.js';
 
@@ -77,24 +77,24 @@ const pointsOf = (view, frame, conflict) => {
 const brokenOf = (view, frame, where, boxes) => {
   const all = conflictsOf(view).all.map(conflict => ({ conflict, points: pointsOf(view, frame, conflict) })).filter(({ points }) => points);
   const found = all.slice(0, MOST_BROKEN), steps = new Set(frame.line.trains.flatMap(train => train.steps));
-  const ways = found.flatMap(({ conflict: { number }, points }) =>
+  const paths = found.flatMap(({ conflict: { number }, points }) =>
     marked(waysOf(frame, points, 'var(--alarm)', 4), { class: 'broken', 'data-activity': number, ...steps.has(number) ? UNDER : {} }));
   const labels = found.flatMap(({ conflict, points: [[start, from], [end, to]] }) => {
     const text = conflict.isRun ? conflict.short : conflict.text, middle = [(start + end) / 2, (from + to) / 2];
     const made = labelsOf(frame, boxes, middle, text, { 'data-activity': conflict.number });
-    for (const label of made) label.append(drawing('title', {}, toldConflicts([conflict])));
+    for (const label of made) label.append(drawing('title', {}, detailsOf([conflict])));
     return made;
   });
-  return { ways, labels, told: elided(all.length, MOST_BROKEN, `that are violated ${where}`) };
+  return { paths, labels, note: elided(all.length, MOST_BROKEN, `that are violated ${where}`) };
 };
 
-// What is violated in a drawing: ways and rings in red, labels beside some texts, and a word on what is left out.
+// What is violated in a drawing: paths and rings in red, labels beside some texts, and a word on what is left out.
 export const conflictMarks = (view, frame, where, texts) => {
-  const boxes = texts.map(boxOf), { ways, labels, told } = brokenOf(view, frame, where, boxes);
+  const boxes = texts.map(boxOf), { paths, labels, note } = brokenOf(view, frame, where, boxes);
   for (const event of [...frame.events].filter(each => isOutside(view, each))) {
     const time = view.times.get(event), y = heightOf(frame, event);
-    ways.push(...copiesOf(frame, time).map(at => drawing('circle', { class: 'outside', cx: frame.x(at), cy: y, r: 5, 'data-event': event, ...UNDER })));
+    paths.push(...copiesOf(frame, time).map(at => drawing('circle', { class: 'outside', cx: frame.x(at), cy: y, r: 5, 'data-event': event, ...UNDER })));
     labels.push(...labelsOf(frame, boxes, [time, y], outsideText(view, event), { 'data-event': event }));
   }
-  return { ways, labels, told };
+  return { paths, labels, note };
 };

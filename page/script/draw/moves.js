@@ -1,10 +1,10 @@
 // What a timetable would move, in edits, in words, and on the strips.
 
+import { display } from '../session/display.js';
 import { timeEdits } from '../base/edits.js';
 import { element, findAll } from '../base/elements.js';
 import { eventName, minutesText, oldText, trainName } from '../session/names.js';
 import { timesNow } from '../session/session.js';
-import { shown } from '../session/shown.js';
 import { trainAt } from '../session/trains.js';
 
 // So many trains are told by their names.
@@ -18,7 +18,7 @@ const movedBy = times => {
 export const editsToTimes = times => timeEdits(movedBy(times));
 
 const farther = (one, other) => {
-  const { period } = shown.view.network, later = (((other - one) % period) + period) % period;
+  const { period } = display.view.network, later = (((other - one) % period) + period) % period;
   return Math.min(later, period - later);
 };
 

@@ -1,9 +1,9 @@
 // The part of a network that a netgraph draws: all of it, or where it is too large what lies about the chosen event.
 
-import { tracksOf } from './lanes.js';
 import { MOST_STATIONS } from './stretch.js';
+import { tracksOf } from './tracks.js';
 
-const MOST_NEARBY = 120, MOST_LANES = 12;
+const MOST_NEARBY = 120, MOST_TRACK_LINES = 12;
 
 // The stations of lines, or those from which fewest tracks lead to the first of them, in the order in which they are reached.
 const stationsFrom = (start, stations, tracks, most) => {
@@ -30,12 +30,12 @@ export const nearby = (lines, chosen) => {
   const isWhole = stations.length <= MOST_STATIONS, start = stations.includes(chosen) ? chosen : stations[0];
   const drawn = isWhole ? stations : stationsFrom(start, stations, all, MOST_NEARBY), known = new Set(drawn);
   const tracks = all.filter(({ one, other }) => known.has(one) && known.has(other));
-  const told = [
-    isWhole ? '' : `Elided: of ${stations.length.toLocaleString('en')} stations the ${MOST_NEARBY} nearest to ${start} are drawn.`,
-    tracks.some(({ lanes }) => lanes.length > MOST_LANES) ? `Elided: of the lines between two stations at most ${MOST_LANES} are drawn.` : '',
+  const notes = [
+    isWhole ? '' : `Elided: of ${stations.length.toLocaleString('en')} stations the ${MOST_NEARBY} nearest to ${start} are shown.`,
+    tracks.some(({ trackLines }) => trackLines.length > MOST_TRACK_LINES) ? `Elided: of the lines between two stations at most ${MOST_TRACK_LINES} are shown.` : '',
   ];
-  const cut = tracks.map(track => ({ ...track, lanes: track.lanes.slice(0, MOST_LANES) }));
-  return { stations: drawn, tracks: cut, told: told.filter(Boolean).join(' ') };
+  const cut = tracks.map(track => ({ ...track, trackLines: track.trackLines.slice(0, MOST_TRACK_LINES) }));
+  return { stations: drawn, tracks: cut, note: notes.filter(Boolean).join(' ') };
 };
 
 // The first of some trains with their places on a line, of which at most so many are drawn, and how many places there are.

@@ -3,22 +3,22 @@
 
 import { drawAlarms, makeAlarm } from './alarms.js';
 import { beside } from './apart.js';
-import { labelPlace, LANE, LETTERS, NAME, spanOfName } from './captions.js';
+import { labelPlace, LETTERS, LINE_STEP, NAME, spanOfName } from './captions.js';
 import { isAlarming } from '../session/conflicts.js';
+import { display } from '../session/display.js';
 import { drawing, find, findAll, setText } from '../base/elements.js';
 import { fitMap } from './fitting.js';
 import { lengthsOf } from './frames.js';
-import { mostNumbers } from './lanes.js';
 import { labelOf, oldText, shortText } from '../session/names.js';
 import { nearby } from './nearby.js';
 import { layOut } from './places.js';
 import { redraw } from '../session/session.js';
-import { shown } from '../session/shown.js';
 import { spaceOf } from '../session/sizes.js';
 import { atOnce, inSlices } from './slices.js';
 import { angleBetween, spread } from './spreading.js';
 import { minuteText } from './tables.js';
 import { isTab } from '../session/tabs.js';
+import { mostNumbers } from './tracks.js';
 
 const AREA = 1020 * 640, MARGIN = 64, RATIOS = [1, 1020 / 640, 2.2], EDGE = 8, STATIONS_OF_A_PAGE = 14, RING = 11;
 // What the name of a line takes of a track with some space, and what each number takes at each of its ends.
@@ -30,23 +30,23 @@ const FEW = 40;
 let graph = null, numbers = new Map(), alarms = null, sheets = new Map(), making = null, tracing = null, isMoved = false, sight = null;
 
 // Minutes that are told with the hour are wider.
-const numberWidth = () => shown.view.network.period > 60 ? 36 : 21;
+const numberWidth = () => display.view.network.period > 60 ? 36 : 21;
 
 // The part to be drawn, about the station of the chosen event.
-const partOf = view => {
-  const about = labelOf(shown.chosen).station;
+const extractOf = view => {
+  const about = labelOf(display.chosen).station;
   return { about, ...nearby(view.lines, about) };
 };
 
-const laidOut = function* ({ lines, network }, { about, stations, tracks, told }, ratio) {
+const laidOut = function* ({ lines, network }, { about, stations, tracks, note }, ratio) {
   const radius = new Map(stations.map(station => [station, radiusOf(station, tracks)]));
-  const known = stations.every(station => shown.places.has(station)) ? shown.places : yield* layOut(stations, lengthsOf(lines, network));
+  const known = stations.every(station => display.places.has(station)) ? display.places : yield* layOut(stations, lengthsOf(lines, network));
   const chosen = new Map(stations.map(station => [station, [known.get(station)[0], -known.get(station)[1]]]));
-  const wanted = tracks.map(track => ({ ...track, along: ROOM + 2 * numberWidth() * mostNumbers(track.lanes), beside: halfWidth(track) }));
+  const wanted = tracks.map(track => ({ ...track, along: ROOM + 2 * numberWidth() * mostNumbers(track.trackLines), beside: halfWidth(track) }));
   const share = Math.min(1, Math.sqrt(stations.length / STATIONS_OF_A_PAGE)), shape = stations.length > FEW ? RATIOS[1] : ratio;
   const sides = [Math.sqrt(AREA * shape), Math.sqrt(AREA / shape)];
   const places = yield* spread(chosen, wanted, radius, sides.map(side => (side - 2 * MARGIN) * share));
-  return { about, tracks, radius, told, isSmall: stations.length <= FEW, places };
+  return { about, tracks, radius, note, isSmall: stations.length <= FEW, places };
 };
 
 // How many times as wide as high the view is that the netgraph fills.
@@ -56,28 +56,28 @@ const ratioNow = () => {
 };
 
 const radiusOf = (station, tracks) => {
-  const most = Math.max(1, ...tracks.filter(({ one, other }) => station === one || station === other).map(({ lanes }) => lanes.length));
-  return RING + LANE * (most - 1) / 2;
+  const most = Math.max(1, ...tracks.filter(({ one, other }) => station === one || station === other).map(({ trackLines }) => trackLines.length));
+  return RING + LINE_STEP * (most - 1) / 2;
 };
 
 // How far the numbers of a track reach to each side.
-const halfWidth = track => (track.lanes.length - 1) * LANE / 2 + ROW;
+const halfWidth = track => (track.trackLines.length - 1) * LINE_STEP / 2 + ROW;
 
 // Lays out a part of the network, and draws its stations, on paper above all tracks.
-const draw = function* (view, part, isPaper = false) {
-  const made = yield* laidOut(view, part, isPaper ? RATIOS[1] : ratioNow()), labels = new Map();
+const draw = function* (view, extract, isPaper = false) {
+  const made = yield* laidOut(view, extract, isPaper ? RATIOS[1] : ratioNow()), labels = new Map();
   for (const station of made.places.keys()) {
     labels.set(station, labelPlace(made, station));
     yield;
   }
   graph = { ...made, box: viewBox(made, labels) };
-  [numbers, alarms] = [new Map(), { lanes: new Map(), stations: new Map(), drawn: new Set() }];
-  const page = sheetOf(nameOf(view), isPaper ? graph.tracks.flatMap(lanesOf) : [], isPaper);
+  [numbers, alarms] = [new Map(), { trackLines: new Map(), stations: new Map(), drawn: new Set() }];
+  const page = sheetOf(nameOf(view), isPaper ? graph.tracks.flatMap(trackLinesOf) : [], isPaper);
   for (const [station, label] of labels) page.append(...drawStation(station, label));
   return page;
 };
 
-const lanesOf = track => track.lanes.map((lane, place) => drawLane(track, lane, (place - (track.lanes.length - 1) / 2) * LANE));
+const trackLinesOf = track => track.trackLines.map((trackLine, place) => drawTrackLine(track, trackLine, (place - (track.trackLines.length - 1) / 2) * LINE_STEP));
 
 // Names can be read, and where there are many the netgraph is scrolled.
 const sheetOf = (name, children, isPaper = false) => {
@@ -96,7 +96,7 @@ const viewBox = ({ places, radius }, labels) => {
   return [left, top, right - left, bottom - top].map(Math.round);
 };
 
-const drawLane = (track, lane, offset) => {
+const drawTrackLine = (track, trackLine, offset) => {
   const first = graph.places.get(track.one), last = graph.places.get(track.other), length = Math.hypot(last[0] - first[0], last[1] - first[1]) || 1;
   const along = [(last[0] - first[0]) / length, (last[1] - first[1]) / length];
   // Within this frame the track runs from 0 to its length along the x axis, so that texts lie along it.
@@ -105,18 +105,18 @@ const drawLane = (track, lane, offset) => {
   const origin = `translate(${start[0].toFixed(1)} ${start[1].toFixed(1)}) rotate(${turn.toFixed(1)})`;
   // No farther from its ring than leaves room for the name of the line in the middle.
   const rings = [track.one, track.other].map(station => graph.radius.get(station));
-  const most = (length - rings[0] - rings[1]) / 2 - 17 - numberWidth() * mostNumbers([lane]);
+  const most = (length - rings[0] - rings[1]) / 2 - 17 - numberWidth() * mostNumbers([trackLine]);
   const begins = [track.one, track.other].map((station, end) => Math.min(clearOf(station, track, offset), rings[end] + Math.max(5, most)));
-  const leaving = [...lane.leaving.values()].flat(), middle = sign * (length + begins[0] - begins[1]) / 2;
-  const way = drawing('path', { d: `M0 0H${(sign * length).toFixed(1)}`, stroke: lane.line.color, 'stroke-width': 3 });
-  const alarm = makeAlarm(way, { x: middle, y: -11, 'text-anchor': 'middle' }, { origin: start, turn: turn * Math.PI / 180 });
-  for (const event of leaving) alarms.lanes.set(event, alarm);
-  return drawing('g', { transform: origin, 'data-event': leaving.length ? leaving[0] : null }, way,
-    ...pill(middle, lane.line), alarm.label, ...numbersAt(lane, track.one, sign, sign * begins[0]),
-    ...numbersAt(lane, track.other, -sign, sign * (length - begins[1])));
+  const leaving = [...trackLine.leaving.values()].flat(), middle = sign * (length + begins[0] - begins[1]) / 2;
+  const path = drawing('path', { d: `M0 0H${(sign * length).toFixed(1)}`, stroke: trackLine.line.color, 'stroke-width': 3 });
+  const alarm = makeAlarm(path, { x: middle, y: -11, 'text-anchor': 'middle' }, { origin: start, turn: turn * Math.PI / 180 });
+  for (const event of leaving) alarms.trackLines.set(event, alarm);
+  return drawing('g', { transform: origin, 'data-event': leaving.length ? leaving[0] : null }, path,
+    ...pill(middle, trackLine.line), alarm.label, ...numbersAt(trackLine, track.one, sign, sign * begins[0]),
+    ...numbersAt(trackLine, track.other, -sign, sign * (length - begins[1])));
 };
 
-// How far from a station the numbers of a lane begin: outside its ring, and beside no other track.
+// How far from a station the numbers of a line begin: outside its ring, and beside no other track.
 const clearOf = (station, track, offset) => {
   let clear = Math.sqrt(Math.max(0, graph.radius.get(station) ** 2 - Math.max(0, Math.abs(offset) - ROW) ** 2));
   for (const other of graph.tracks) {
@@ -138,10 +138,10 @@ const pill = (x, line) => {
     drawing('text', { class: 'lane', x, y: 4.2, 'text-anchor': 'middle' }, name)];
 };
 
-// The minutes of a lane at one of its ends, to the right of the track as their trains go.
-const numbersAt = (lane, station, outward, x) => {
+// The minutes of a line at one end of a track, to the right of the track as their trains go.
+const numbersAt = (trackLine, station, outward, x) => {
   const [leaving, arriving] = outward > 0 ? [11.5, -4] : [-4, 11.5], anchor = outward > 0 ? 'start' : 'end';
-  const rows = [[lane.leaving.get(station), leaving, 'leaves'], [lane.arriving.get(station), arriving, 'arrives']];
+  const rows = [[trackLine.leaving.get(station), leaving, 'leaves'], [trackLine.arriving.get(station), arriving, 'arrives']];
   return rows.filter(([events]) => events)
     .map(([events, y, name]) => drawing('text', { class: `minutes ${name}`, x, y, 'text-anchor': anchor }, ...spaced(events.map(minuteOf))));
 };
@@ -179,7 +179,7 @@ const drawTracks = function* () {
   for (const track of graph.tracks) {
     const isIn = beside(middle, graph.places.get(track.one), graph.places.get(track.other)) - halfWidth(track) < reach;
     if (isIn === sheets.has(track)) continue;
-    if (isIn) sheets.set(track, sheetOf('Trains of the netgraph', lanesOf(track)));
+    if (isIn) sheets.set(track, sheetOf('Trains of the netgraph', trackLinesOf(track)));
     else {
       sheets.get(track).remove();
       sheets.delete(track);
@@ -189,11 +189,11 @@ const drawTracks = function* () {
   holder.append(...[...sheets.values()].filter(sheet => !sheet.isConnected));
   fitMap();
   for (const [event, { node }] of numbers) if (!node.isConnected) numbers.delete(event);
-  for (const [event, { label }] of alarms.lanes) if (!label.isConnected) alarms.lanes.delete(event);
-  drawTimes(shown.view);
+  for (const [event, { label }] of alarms.trackLines) if (!label.isConnected) alarms.trackLines.delete(event);
+  drawTimes(display.view);
 };
 
-const drawTimes = (view, chosen = shown.chosen) => {
+const drawTimes = (view, chosen = display.chosen) => {
   for (const [event, number] of numbers) drawNumber(view, event, number, chosen);
   drawAlarms(view, alarms);
 };
@@ -220,14 +220,14 @@ const show = page => {
   fitMap();
   sight.observe(page);
   if (graph.isSmall) atOnce(drawTracks());
-  if (isWider(find('netgraph'))) lookAt(labelOf(shown.chosen).station);
+  if (isWider(find('netgraph'))) lookAt(labelOf(display.chosen).station);
 };
 
 const make = view => {
-  const part = partOf(view), work = draw(view, part);
+  const extract = extractOf(view), work = draw(view, extract);
   stop();
-  if (part.stations.length <= FEW) return show(atOnce(work));
-  setText(find('netgraph-elided'), `${part.told} It is being drawn …`);
+  if (extract.stations.length <= FEW) return show(atOnce(work));
+  setText(find('netgraph-elided'), `${extract.note} It appears in a moment …`);
   tellBusy(true);
   making = inSlices(work, page => {
     making = null;
@@ -249,10 +249,10 @@ const update = view => {
   if (!isTab('netgraph')) return stop();
   find('no-netgraph').hidden = view.lines.length > 0;
   if (!view.lines.length || making) return;
-  const { station } = labelOf(shown.chosen);
-  if (!graph || (graph.told && graph.about !== station && !graph.places.has(station))) make(view);
+  const { station } = labelOf(display.chosen);
+  if (!graph || (graph.note && graph.about !== station && !graph.places.has(station))) make(view);
   if (making) return;
-  setText(find('netgraph-elided'), graph.told);
+  setText(find('netgraph-elided'), graph.note);
   drawTimes(view);
   fitMap();
 };
@@ -269,10 +269,10 @@ export const lookAt = station => {
 
 // The netgraph for paper, with no event chosen, and what it says of what is left out; the one on the screen stays.
 export const netgraphOf = view => {
-  const screen = { graph, numbers, alarms }, drawn = atOnce(draw(view, partOf(view), true)), { told } = graph;
+  const screen = { graph, numbers, alarms }, drawn = atOnce(draw(view, extractOf(view), true)), { note } = graph;
   drawTimes(view, null);
   ({ graph, numbers, alarms } = screen);
-  return { drawn, told };
+  return { drawn, note };
 };
 
 // A number is set where it is another one than was drawn, since there are many and a step changes few.

@@ -1,8 +1,8 @@
 // What is printed: some lines, which are all at first, and boards of some stations.
 
+import { display } from '../session/display.js';
 import { element, find } from '../base/elements.js';
 import { labelOf } from '../session/names.js';
-import { shown } from '../session/shown.js';
 
 const ALL = { lines: null, boards: new Set() };
 let kept = ALL;
@@ -17,7 +17,7 @@ const choice = (name, title, names, chosen) => element('label', {}, title,
 const chosenIn = name => new Set([...find(`${name}-on-paper`).selectedOptions].map(({ value }) => value));
 
 const show = () => {
-  const { lines, network } = shown.view, stations = [...new Set(network.events.map(event => labelOf(event).station))].filter(Boolean).sort();
+  const { lines, network } = display.view, stations = [...new Set(network.events.map(event => labelOf(event).station))].filter(Boolean).sort();
   find('paper-picks').replaceChildren(choice('lines', 'Lines', lines.map(({ name }) => name), name => !kept.lines || kept.lines.has(name)),
     choice('boards', 'Boards of stations', stations, name => kept.boards.has(name)));
   find('papers').showModal();
@@ -34,7 +34,7 @@ export const startPapers = () => {
   find('papers-close').addEventListener('click', () => dialog.close());
   dialog.addEventListener('close', () => {
     const lines = chosenIn('lines');
-    kept = { lines: lines.size < shown.view.lines.length ? lines : null, boards: chosenIn('boards') };
+    kept = { lines: lines.size < display.view.lines.length ? lines : null, boards: chosenIn('boards') };
   });
   find('papers-print').addEventListener('click', () => {
     dialog.close();

@@ -2,12 +2,13 @@
 
 import { boardOf } from './board.js';
 import { connectionTables } from './connections.js';
+import { costText } from '../session/costs.js';
+import { display } from '../session/display.js';
 import { element, find } from '../base/elements.js';
 import { lengthText } from '../session/names.js';
 import { netgraphOf } from './netgraph.js';
 import { boardsOnPaper, linesOnPaper } from './papers.js';
 import { session } from '../session/session.js';
-import { shown } from '../session/shown.js';
 import { tablesOf } from './tables.js';
 import { untimedText } from '../base/timed.js';
 import { countViolated } from '../base/viewing.js';
@@ -15,10 +16,10 @@ import { countViolated } from '../base/viewing.js';
 const summary = view => {
   const { title } = session.opened, count = countViolated(view);
   const date = new Date().toLocaleDateString('en-GB', { day: 'numeric', month: 'long', year: 'numeric' });
-  const cost = [`cost ${view.cost.toLocaleString('en')}`, untimedText(view)].filter(Boolean).join(', ');
+  const cost = [costText(view.cost), untimedText(view)].filter(Boolean).join(', ');
   const violated = count === null ? '' : count ? `, ✕ ${count} violated` : ', nothing is violated';
-  const told = `Period ${lengthText(view.network.period)}: ${cost}${violated}. A frame: the event is held.`;
-  return [element('h1', {}, title || 'Timetable'), element('p', { class: 'date' }, `Printed on ${date}`), element('p', {}, told)];
+  const text = `Period ${lengthText(view.network.period)}: ${cost}${violated}. A frame: the event is held.`;
+  return [element('h1', {}, title || 'Timetable'), element('p', { class: 'date' }, `Printed on ${date}`), element('p', {}, text)];
 };
 
 export const NETGRAPH_NOTE = 'Minutes stand to the right of the track as the train goes: in bold where it leaves, plain where it arrives.';
@@ -26,8 +27,8 @@ export const NETGRAPH_NOTE = 'Minutes stand to the right of the track as the tra
 // The first page, with the netgraph where there are lines.
 const front = view => {
   if (!view.lines.length) return element('section', { class: 'front' }, ...summary(view));
-  const { drawn, told } = netgraphOf(view);
-  return element('section', { class: 'front wide-page' }, ...summary(view), drawn, element('p', {}, [told, NETGRAPH_NOTE].filter(Boolean).join(' ')));
+  const { drawn, note } = netgraphOf(view);
+  return element('section', { class: 'front wide-page' }, ...summary(view), drawn, element('p', {}, [note, NETGRAPH_NOTE].filter(Boolean).join(' ')));
 };
 
 const paper = view => {
@@ -37,6 +38,6 @@ const paper = view => {
 };
 
 export const startPrinting = () => {
-  window.addEventListener('beforeprint', () => find('printed').replaceChildren(...paper(shown.view)));
+  window.addEventListener('beforeprint', () => find('printed').replaceChildren(...paper(display.view)));
   window.addEventListener('afterprint', () => find('printed').replaceChildren());
 };

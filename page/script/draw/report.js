@@ -3,6 +3,8 @@
 
 import { conflictsOf } from '../session/conflicts.js';
 import { connectionTables } from './connections.js';
+import { costName } from '../session/costs.js';
+import { display } from '../session/display.js';
 import { element, elided, find, rowOf, tableOf, tellReady } from '../base/elements.js';
 import { kindTables } from './kinds.js';
 import { activityName, clock, domainText, eventName, lengthText, minutesText, spanMinutes, windowText } from '../session/names.js';
@@ -12,8 +14,8 @@ import { NETGRAPH_NOTE } from './printing.js';
 import { exactly } from '../base/replies.js';
 import { stripPicture } from '../forms/rows.js';
 import { openBase, readView } from '../session/session.js';
-import { shown } from '../session/shown.js';
 import { tablesOf } from './tables.js';
+import { untimedText } from '../base/timed.js';
 import { countViolated, isInfeasible } from '../base/viewing.js';
 
 const MOST_STRIPS = 2000, MOST_VIOLATED = 500;
@@ -57,26 +59,26 @@ const headline = (view, report) => {
   return `The timetable is not whole: ${counted(untimed)} of ${counted(count)} events ${untimed === 1 ? 'has' : 'have'} no time.`;
 };
 
-/** @param {any[]} told */
+/** @param {any[]} fact */
 const figure = ([words, number, look = '']) => element('div', { class: `figure ${look}`, 'data-figure': words },
   element('b', {}, typeof number === 'string' ? number : number.toLocaleString('en')), ' ', element('span', {}, words));
 
 const figures = view => {
   const { network, lines } = view, count = countViolated(view), stations = new Set(lines.flatMap(line => line.stations));
   const ofLines = [['lines', lines.length], ['trains a period', view.trains.length], ['stations', stations.size]];
-  const ofTimes = [['violated', count, count ? 'alarm' : 'good'], ['cost', view.cost]];
+  const ofTimes = [['violated', count, count ? 'alarm' : 'good'], [costName(), view.cost]];
   return element('div', { class: 'figures' }, ...[['period', lengthText(network.period)], ...lines.length ? ofLines : [],
     ['events', network.events.length], ['activities', network.activities.size], ...view.cost === null ? [] : ofTimes].map(figure));
 };
 
 const summary = (view, report) => {
-  const line = headline(view, report), missing = view.missing && `${view.missing}, so nothing is said of slack, cost and violations.`;
+  const line = headline(view, report), missing = view.missing && `${untimedText(view)}, so nothing is said of slack, ${costName()} and violations.`;
   const notes = [missing, report.search].filter(text => text && text !== line);
   return element('section', { class: 'front' }, element('h1', {}, report.title), line && element('p', { class: 'headline' }, line),
     figures(view), ...notes.map(text => element('p', {}, text)));
 };
 
-const part = (id, title, note, ...children) => element('section', { id, class: 'part' }, element('h2', {}, title), note && element('p', { class: 'quiet' }, note), ...children);
+const section = (id, title, note, ...children) => element('section', { id, class: 'part' }, element('h2', {}, title), note && element('p', { class: 'quiet' }, note), ...children);
 
 // By how much an event misses its window, the nearer way.
 const offText = ({ network: { windows, period }, times }, event) => {
@@ -88,47 +90,47 @@ const offText = ({ network: { windows, period }, times }, event) => {
 const violated = view => {
   if (!view.violations) return [];
   const { period, windows } = view.network, { all } = conflictsOf(view), { events } = view.violations, count = all.length + events.size;
-  if (!count) return [part('violated', 'What is violated', '', element('p', {}, 'Nothing: every activity and every fixed time is met.'))];
+  if (!count) return [section('violated', 'What is violated', '', element('p', {}, 'Nothing: every activity and every fixed time is met.'))];
   const rows = [
     ...all.map(({ number, activity, had, missed }) => rowOf(activityName(activity), [spanMinutes(activity.lower, activity.upper), minutesText(had), missed],
       { 'data-violated-activity': number })),
     ...[...events].map(event => rowOf(eventName(event), [windowText(windows.get(event), period), clock(view.times.get(event)), offText(view, event)],
       { 'data-violated-event': event })),
   ];
-  return [part('violated', 'What is violated', elided(count, MOST_VIOLATED, 'that are violated'),
+  return [section('violated', 'What is violated', elided(count, MOST_VIOLATED, 'that are violated'),
     tableOf('times listed', ['', 'has to take, or be', 'takes, or is', 'how far off'], rows.slice(0, MOST_VIOLATED)))];
 };
 
 const netgraph = view => {
   if (!view.lines.some(line => line.stations.length > 1)) return [];
-  const { drawn, told } = netgraphOf(view);
+  const { drawn, note } = netgraphOf(view);
   // Few stations are not drawn larger than many.
   drawn.style.maxWidth = `min(100%, ${drawn.getAttribute('viewBox').split(' ')[2]}px)`;
-  return [part('netgraph-drawn', 'Netgraph', [told, NETGRAPH_NOTE].filter(Boolean).join(' '), drawn)];
+  return [section('netgraph-drawn', 'Netgraph', [note, NETGRAPH_NOTE].filter(Boolean).join(' '), drawn)];
 };
 
 const strip = (view, event) => {
   const { windows, period } = view.network, time = view.times.get(event), minutes = view.domains.get(event);
   const held = windows.has(event) ? ` · held ${windowText(windows.get(event), period)}` : '', at = time === undefined ? '' : ` at ${clock(time)}`;
-  return element('div', { class: minutes.length ? 'narrowed' : 'narrowed alarm', 'data-domain': event }, element('span', {}, eventName(event) + at + held),
+  return element('div', { class: minutes.length ? 'limited' : 'limited alarm', 'data-domain': event }, element('span', {}, eventName(event) + at + held),
     element('span', {}, domainText(minutes, period)), stripPicture(view, event));
 };
 
-const narrowed = view => {
+const limited = view => {
   const { events, period } = view.network, found = events.filter(event => view.domains.get(event).length < period);
   if (!found.length) return [];
   const note = `${counted(found.length)} of ${counted(events.length)} events can no longer be at every minute. Each strip is one period: blue is what single `
     + 'activities leave, a line is the working timetable’s time, a frame is what the event is held to. That a minute is left does not say that some timetable has it.';
-  const told = elided(found.length, MOST_STRIPS, 'events');
-  return [part('domains', 'When events can still be', [note, told].filter(Boolean).join(' '), ...found.slice(0, MOST_STRIPS).map(event => strip(view, event)))];
+  const left = elided(found.length, MOST_STRIPS, 'events');
+  return [section('domains', 'When events can still be', [note, left].filter(Boolean).join(' '), ...found.slice(0, MOST_STRIPS).map(event => strip(view, event)))];
 };
 
-const SAID = 'Times, possible minutes, slacks, violations and cost are replies of pespbench; names are those of the labels.';
+const saidText = () => `Times, possible minutes, slacks, violations and ${costName()} are replies of pespbench; names are those of the labels.`;
 
 // All that a report shows.
 export const reportOf = (view, report) => [summary(view, report), ...violated(view), ...netgraph(view),
-  ...view.lines.length ? [part('lines', 'Lines', 'A framed minute is held. In the diagrams, stations are as far apart as trains need at least.', ...tablesOf(view, true))] : [],
-  ...connectionTables(view), ...narrowed(view), ...kindTables(view), element('p', { class: 'quiet' }, SAID)];
+  ...view.lines.length ? [section('lines', 'Lines', 'A framed minute is held. In the diagrams, stations are as far apart as trains need at least.', ...tablesOf(view, true))] : [],
+  ...connectionTables(view), ...limited(view), ...kindTables(view), element('p', { class: 'quiet' }, saidText())];
 
 // The report that stands in this page; null where it is no report.
 export const reportGiven = () => {
@@ -152,6 +154,6 @@ export const readReport = report => new Promise(done => {
 
 // Opens in the workbench what a report tells.
 export const openReport = report => {
-  const { network, times, labels } = viewOfReport(report), { places } = shown;
+  const { network, times, labels } = viewOfReport(report), { places } = display;
   openBase(baseOf(network, times), { title: report.title, labels, places });
 };

@@ -14,14 +14,14 @@ export const spread = function* (places, tracks, radius, size) {
 };
 
 // How far numbers are from the least, as parts of a length of which half is given, so that nothing overflows.
-const partsOf = (numbers, least, half) => numbers.map(each => half ? (each / 2 - least / 2) / half : 0);
+const sharesOf = (numbers, least, half) => numbers.map(each => half ? (each / 2 - least / 2) / half : 0);
 
 // The places at a scale at which they fit into a size, stretched up to a half more one way where that fills it. They are parts of the
 // longer way first, so that none is too far or too near for what is worked out with them.
 const fitted = (places, [width, height]) => {
   const axes = [0, 1].map(axis => [...places.values()].map(place => place[axis])), leasts = axes.map(numbers => Math.min(...numbers));
   const halves = axes.map((numbers, axis) => Math.max(...numbers) / 2 - leasts[axis] / 2), longer = Math.max(...halves);
-  const [xs, ys] = axes.map((numbers, axis) => partsOf(numbers, leasts[axis], longer)), [wide, high] = [xs, ys].map(parts => Math.max(...parts));
+  const [xs, ys] = axes.map((numbers, axis) => sharesOf(numbers, leasts[axis], longer)), [wide, high] = [xs, ys].map(shares => Math.max(...shares));
   let across = wide ? width / wide : 1, down = high ? height / high : 1;
   const scale = Math.min(wide ? across : down, high ? down : across);
   [across, down] = [across, down].map(each => Math.min(each, 1.5 * scale));

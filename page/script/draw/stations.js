@@ -1,21 +1,21 @@
 // How the stations of a corridor are chosen: by name, by a click on the netgraph, or all of a line.
 
 import { chooseCorridor, corridor, switchStation } from './corridor.js';
+import { display } from '../session/display.js';
 import { element, elided, find, findAll, setText } from '../base/elements.js';
 import { fillFinder } from './finder.js';
 import { matches } from './finding.js';
-import { shown } from '../session/shown.js';
 import { isTab, showTab } from '../session/tabs.js';
 
 const MOST_CHIPS = 40;
 
 const button = (name, act) => element('button', { type: 'button', onclick: act }, name);
 
-const lineOf = view => view.lines.find(line => line.name === shown.chosenLine) || view.lines[0];
+const lineOf = view => view.lines.find(line => line.name === display.chosenLine) || view.lines[0];
 
 // What stays where it is, so that the keys stay on it.
-const clear = () => chooseCorridor([]), chips = element('ol', { 'aria-label': 'stations chosen' }), told = element('span');
-const all = button('All of a line', () => chooseCorridor([...lineOf(shown.view).stations]));
+const clear = () => chooseCorridor([]), chips = element('ol', { 'aria-label': 'stations chosen' }), summary = element('span');
+const all = button('All of a line', () => chooseCorridor([...lineOf(display.view).stations]));
 const turn = button('Turn round', () => chooseCorridor([...corridor.chosen].reverse()));
 const none = button('Clear', clear), toMap = button('Netgraph', () => showTab('netgraph'));
 const ofMap = [button('Corridor', () => showTab('corridor')), button('Clear', clear)];
@@ -25,7 +25,7 @@ export const startStations = () => {
   const finder = element('div', { class: 'finder' }), take = ({ value }) => corridor.chosen.includes(value) || switchStation(value);
   find('corridor-stations').replaceChildren(finder, chips, all, turn, none, toMap);
   fillFinder(finder, { label: 'Station', hint: 'a name', search: text => matches(text, ['station']), take });
-  find('corridor-told').replaceChildren(...ofMap, told);
+  find('corridor-told').replaceChildren(...ofMap, summary);
   const panel = find('netgraph');
   panel.addEventListener('click', clicked);
   panel.addEventListener('keydown', event => {
@@ -65,7 +65,7 @@ const updateMap = view => {
     each.setAttribute('aria-pressed', known.has(each.dataset.station));
   }
   for (const each of ofMap) each.disabled = !known.size;
-  setText(told, stations.join(' – ') || 'A click on a station takes it in.');
+  setText(summary, stations.join(' – ') || 'A click on a station takes it in.');
 };
 
 export const stationsPanel = {

@@ -1,7 +1,7 @@
 // The part of a line that its diagram draws: all of it, or where it is too long the stations about the chosen event.
 
 import { labelOf } from '../session/names.js';
-import { partsWhere } from '../session/trains.js';
+import { piecesWhere } from '../session/trains.js';
 
 const MOST_STRETCH = 120;
 // So many stops of trains are drawn with all stations of a line.
@@ -10,8 +10,8 @@ const MOST_STOPS = 5000;
 // More stations than these are not all drawn, in a diagram or in a netgraph.
 export const MOST_STATIONS = 349;
 
-// The parts of a train that lie in some stations, each as a train.
-export const piecesOf = (train, stations) => partsWhere(train, event => stations.has(labelOf(event).station));
+// The pieces of a train that lie in some stations, each as a train.
+export const piecesOf = (train, stations) => piecesWhere(train, event => stations.has(labelOf(event).station));
 
 const isSmall = ({ stations, trains }) => stations.length <= MOST_STRETCH
   || (stations.length <= MOST_STATIONS && trains.reduce((sum, { events }) => sum + events.length, 0) <= MOST_STOPS);
@@ -19,10 +19,10 @@ const isSmall = ({ stations, trains }) => stations.length <= MOST_STRETCH
 // The line, with the word that says what is left out.
 export const stretchOf = (line, chosen) => {
   const { stations } = line;
-  if (isSmall(line)) return { line, told: '' };
+  if (isSmall(line)) return { line, note: '' };
   const middle = Math.max(0, stations.indexOf(labelOf(chosen).station));
   const first = Math.min(Math.max(0, middle - MOST_STRETCH / 2), stations.length - MOST_STRETCH);
   const kept = stations.slice(first, first + MOST_STRETCH), known = new Set(kept);
-  const told = `Elided: of ${stations.length.toLocaleString('en')} stations the ${MOST_STRETCH} about ${stations[middle]} are drawn.`;
-  return { line: { ...line, stations: kept, trains: line.trains.flatMap(train => piecesOf(train, known)) }, told };
+  const note = `Elided: of ${stations.length.toLocaleString('en')} stations the ${MOST_STRETCH} about ${stations[middle]} are shown.`;
+  return { line: { ...line, stations: kept, trains: line.trains.flatMap(train => piecesOf(train, known)) }, note };
 };

@@ -1,11 +1,11 @@
 // The table of each line: stations down, and for each train the minutes at which it arrives and leaves across. On
 // paper the diagram of each line stands below.
 
-import { conflictsOfRow, isAlarming, isOutside, outsideText, shortConflicts, toldConflicts } from '../session/conflicts.js';
+import { conflictsOfRow, detailsOf, isAlarming, isOutside, outsideText, shortConflicts } from '../session/conflicts.js';
 import { diagramOf } from './diagram.js';
+import { display } from '../session/display.js';
 import { element, find, rowOf, setAttribute, setText, tableOf } from '../base/elements.js';
 import { bareClock, domainText, eventName, windowText } from '../session/names.js';
-import { shown } from '../session/shown.js';
 import { isTab } from '../session/tabs.js';
 import { isForward } from '../session/trains.js';
 
@@ -45,11 +45,11 @@ const drawCell = (view, event, drawnAt) => {
 // The look of a minute, below which its style puts what is violated there.
 const lookOf = (view, event, words) => {
   const conflicts = conflictsOfRow(view, event);
-  const told = [isOutside(view, event) && outsideText(view, event), shortConflicts(conflicts)];
-  const looks = [...words, isAlarming(view, event) ? 'alarm' : '', event === shown.chosen ? 'chosen' : ''];
+  const faults = [isOutside(view, event) && outsideText(view, event), shortConflicts(conflicts)];
+  const looks = [...words, isAlarming(view, event) ? 'alarm' : '', event === display.chosen ? 'chosen' : ''];
   return {
-    class: looks.filter(Boolean).join(' '), 'data-event': event, 'data-told': told.filter(Boolean).join('\n') || null,
-    'data-activity': conflicts.length ? conflicts[0].number : null, title: toldConflicts(conflicts) || null,
+    class: looks.filter(Boolean).join(' '), 'data-event': event, 'data-told': faults.filter(Boolean).join('\n') || null,
+    'data-activity': conflicts.length ? conflicts[0].number : null, title: detailsOf(conflicts) || null,
   };
 };
 
@@ -82,8 +82,8 @@ const eventCells = (view, event) => {
 export const tablesOf = (view, isPrinted, made = new Map()) => {
   if (!view.lines.length) return [eventTable(view)];
   const tables = view.lines.map(line => {
-    const { drawn, told } = isPrinted && line.stations.length > 1 ? diagramOf(view, line) : { drawn: null, told: '' };
-    return element('section', { class: 'line' }, headOf(line, isPrinted), lineTable(line, made), drawn, told && element('p', {}, told));
+    const { drawn, note } = isPrinted && line.stations.length > 1 ? diagramOf(view, line) : { drawn: null, note: '' };
+    return element('section', { class: 'line' }, headOf(line, isPrinted), lineTable(line, made), drawn, note && element('p', {}, note));
   });
   drawCells(view, made);
   return tables;

@@ -1,5 +1,6 @@
 // Strips and pictures are zoomed and moved: by the wheel, keys, two fingers, a drag beside all trains, and buttons.
 
+import { display } from '../session/display.js';
 import { find, setText } from '../base/elements.js';
 import { bringMinute, isShown, isTwice, isZoomed, minutesOfDiagram, minutesOfStrips, shiftMinutes, showAll, showTwice, zoomMinutes } from '../session/extent.js';
 import { isField } from '../forms/fields.js';
@@ -8,7 +9,6 @@ import { minutesOn } from './frames.js';
 import { isFinger } from '../forms/handles.js';
 import { clock } from '../session/names.js';
 import { redraw } from '../session/session.js';
-import { shown } from '../session/shown.js';
 import { isTab } from '../session/tabs.js';
 
 const DIAGRAMS = ['diagram', 'corridor'], MAP = 'netgraph', STRIPS = 'events', STEP = 1.5, FULL_WHEEL = 500, LEAST_MOVE = 3, LEAST_APART = 20;
@@ -32,7 +32,7 @@ const minutesOf = name => {
 // Shows so many times as much about a place of the screen; false where that changes nothing.
 const zoom = (name, factor, x, y) => {
   if (name === MAP) return zoomMap(1 / factor, x, y);
-  const { left, width, first, count } = minutesOf(name), { period } = shown.view.network;
+  const { left, width, first, count } = minutesOf(name), { period } = display.view.network;
   const turns = name === STRIPS ? Math.floor(minutesOfDiagram().first / period) * period : 0;
   return zoomMinutes(factor, turns + first + count * (x - left) / width);
 };
@@ -123,9 +123,9 @@ const zoomShown = (name, factor) => {
     const { left, top, width, height } = find(MAP).getBoundingClientRect();
     return zoomMap(1 / factor, left + width / 2, top + height / 2);
   }
-  const time = shown.view.times.get(shown.chosen), { first, count } = minutesOfDiagram();
+  const time = display.view.times.get(display.chosen), { first, count } = minutesOfDiagram();
   if (time !== undefined) bringMinute(time);
-  const { period } = shown.view.network, at = time === undefined ? first + count / 2 : time + Math.floor(minutesOfDiagram().first / period) * period;
+  const { period } = display.view.network, at = time === undefined ? first + count / 2 : time + Math.floor(minutesOfDiagram().first / period) * period;
   return zoomMinutes(factor, at);
 };
 
@@ -153,15 +153,15 @@ const press = key => () => {
   redraw();
 };
 
-const told = () => {
+const rangeText = () => {
   if (isTab(MAP)) return `${Math.round(100 * mapZoom())} %`;
-  const { period } = shown.view.network, { first, count } = minutesOfDiagram();
+  const { period } = display.view.network, { first, count } = minutesOfDiagram();
   return isZoomed() ? [first, first + count].map(minute => clock(Math.round(minute) % period)).join('–') : '';
 };
 
 // The time of the chosen event that was shown is shown where it is moved on.
 const follow = ({ times }) => {
-  const event = shown.chosen, time = times.get(event), isMoved = last.event === event && last.time !== time && time !== undefined && last.time !== undefined && isShown(last.time);
+  const event = display.chosen, time = times.get(event), isMoved = last.event === event && last.time !== time && time !== undefined && last.time !== undefined && isShown(last.time);
   last = { event, time };
   if (isMoved && !document.body.classList.contains('dragging') && bringMinute(time)) drawSoon();
 };
@@ -170,7 +170,7 @@ export const zoomPanel = {
   begin: showAll,
   update: view => {
     follow(view);
-    setText(find('zoom-told'), told());
+    setText(find('zoom-told'), rangeText());
     find('two-periods').checked = isTwice();
   },
 };

@@ -28,7 +28,7 @@ const packed = (...numbers) => Uint8Array.from(numbers.flatMap(([value, width]) 
 
 // The archive of some files, each a name with its text.
 export const zipOf = files => {
-  const parts = [], listed = [];
+  const chunks = [], listed = [];
   let offset = 0;
   const push = (list, ...added) => list.push(...added);
   for (const [name, text] of Object.entries(files)) {
@@ -36,31 +36,31 @@ export const zipOf = files => {
     // Version, names in UTF-8, stored, midnight of 1 January 1980, then the checksum, both sizes and the name's length.
     const sizes = [[checksum(bytes), 4], [bytes.length, 4], [bytes.length, 4], [named.length, 2], [0, 2]];
     const common = packed([20, 2], [0x800, 2], [0, 2], [0, 2], [33, 2], ...sizes);
-    push(parts, packed([FILE, 4]), common, named, bytes);
+    push(chunks, packed([FILE, 4]), common, named, bytes);
     push(listed, packed([ENTRY, 4], [20, 2]), common, packed([0, 2], [0, 2], [0, 2], [0, 4], [offset, 4]), named);
     offset += 4 + common.length + named.length + bytes.length;
   }
-  const count = Object.keys(files).length, size = listed.reduce((sum, part) => sum + part.length, 0);
+  const count = Object.keys(files).length, size = listed.reduce((sum, chunk) => sum + chunk.length, 0);
   const end = packed([END, 4], [0, 2], [0, 2], [count, 2], [count, 2], [size, 4], [offset, 4], [0, 2]);
-  return new Blob([...parts, ...listed, end], { type: 'application/zip' });
+  return new Blob([...chunks, ...listed, end], { type: 'application/zip' });
 };
 
 // The bytes of a stream as a blob, with their number and their checksum; null where they are more than they may be: no more than
 // that is ever unpacked.
 const gathered = async (stream, most) => {
-  const reader = stream.getReader(), blobs = [], parts = [];
+  const reader = stream.getReader(), blobs = [], chunks = [];
   let length = 0, sum = 0;
-  for (let part = await reader.read(); !part.done; part = await reader.read()) {
-    length += part.value.length;
+  for (let chunk = await reader.read(); !chunk.done; chunk = await reader.read()) {
+    length += chunk.value.length;
     if (length > most) {
       await reader.cancel();
       return null;
     }
-    sum = checksum(part.value, sum);
-    parts.push(part.value);
-    if (parts.length === AT_ONCE) blobs.push(new Blob(parts.splice(0)));
+    sum = checksum(chunk.value, sum);
+    chunks.push(chunk.value);
+    if (chunks.length === AT_ONCE) blobs.push(new Blob(chunks.splice(0)));
   }
-  return { blob: new Blob([...blobs, ...parts]), length, sum };
+  return { blob: new Blob([...blobs, ...chunks]), length, sum };
 };
 
 // What was packed.

@@ -1,6 +1,7 @@
 // Drafts: what is not saved, kept in the browser where the planner says so, and offered when the page is opened the next time.
 // Each page writes one of its own, which it holds as long as it is open; of one that another page holds it opens a copy.
 
+import { display } from '../session/display.js';
 import { beginsEdit } from '../base/edits.js';
 import { element, find, say, sayMore, setText } from '../base/elements.js';
 import { filesOf, isSaved } from './filing.js';
@@ -8,7 +9,6 @@ import { namesHeld, takeHold, untilFree } from './holding.js';
 import { keepingKeys } from '../base/keeping.js';
 import { labelsText, readLabels } from '../base/labels.js';
 import { linesOfStep, session } from '../session/session.js';
-import { shown } from '../session/shown.js';
 import { openTexts } from './texts.js';
 
 const CHOICE = 'pespbench-keep', KEY = 'pespbench-draft-', DELAY = 300, MOST_STEPS = 100000;
@@ -37,7 +37,7 @@ const isKept = () => {
 
 const draftNow = () => {
   const { opened, steps, place } = session;
-  const files = filesOf(opened.network, opened.times, opened.labels), labels = labelsText(shown.labels);
+  const files = filesOf(opened.network, opened.times, opened.labels), labels = labelsText(display.labels);
   const done = steps.slice(0, place).filter(({ edits }) => edits.length);
   const kept = { steps: done.map(linesOfStep), titles: done.map(step => step.title) };
   return JSON.stringify({ title: opened.title, at: Date.now(), files, labels, ...kept });

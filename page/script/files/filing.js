@@ -1,10 +1,10 @@
 // The files of the state that is shown, in the forms that the program and the Python package read, and which of them were saved.
 
+import { display } from '../session/display.js';
 import { labelsText, placesText } from '../base/labels.js';
 import { rowsOf, rowsText } from '../base/network.js';
 import { trimmed } from '../base/records.js';
 import { session } from '../session/session.js';
-import { shown } from '../session/shown.js';
 
 const FORBIDDEN = /[\\/:*?"<>|\u0000-\u001f\u007f]+/g;
 // Of a longer title no more is looked at.
@@ -15,14 +15,14 @@ const HEADERS = {
 };
 
 // The files by name.
-export const filesToSave = () => filesOf(shown.view.network, shown.view.times);
+export const filesToSave = () => filesOf(display.view.network, display.view.times);
 
-export const filesOf = (network, times, labels = shown.labels) => {
+export const filesOf = (network, times, labels = display.labels) => {
   const rows = rowsOf(network, times), files = {};
   for (const [name, header] of Object.entries(HEADERS)) files[name] = `${header}\n${rowsText(rows[name])}`;
   files.period = `period\n${network.period}\n`;
   if (labels.events.size || labels.kinds.size || labels.cost) files.labels = labelsText(labels);
-  if (shown.places.size) files.places = placesText(shown.places);
+  if (display.places.size) files.places = placesText(display.places);
   return files;
 };
 

@@ -31,7 +31,7 @@ const NAMES_ALONE = 'The link has names alone: they take the place of those that
 let files = [];
 
 const kindOf = name => {
-  const base = name.split('/').pop().toLowerCase(), word = WORDS.find(([part]) => base.includes(part));
+  const base = name.split('/').pop().toLowerCase(), word = WORDS.find(([text]) => base.includes(text));
   return word ? word[1] : 'nothing';
 };
 
@@ -107,7 +107,7 @@ const readText = text => ({ content: text, texts: () => [text], has: letter => t
 
 const convertShort = (file, bytes) => {
   const texts = [];
-  file.told = convert(file.kind, sourceOf(bytes), text => texts.push(text));
+  file.notes = convert(file.kind, sourceOf(bytes), text => texts.push(text));
   file.read = readText(texts.join(''));
 };
 
@@ -116,9 +116,9 @@ const convertByWorker = async found => {
   hide();
   const made = await convertLong(found.map(({ kind, blob }) => ({ kind, blob })));
   if (!made) return false;
-  for (const [place, { blob, told }] of made.entries()) {
+  for (const [place, { blob, notes }] of made.entries()) {
     const file = found[place], bytes = new Uint8Array(await blob.arrayBuffer());
-    Object.assign(file, { told, read: file.kind === 'activities' ? readBytes(bytes) : readText(new TextDecoder('utf-8', { ignoreBOM: true }).decode(bytes)) });
+    Object.assign(file, { notes, read: file.kind === 'activities' ? readBytes(bytes) : readText(new TextDecoder('utf-8', { ignoreBOM: true }).decode(bytes)) });
   }
   return true;
 };
@@ -159,7 +159,7 @@ const baseOf = ({ name }) => name.split('/').pop();
 // The folder of files is told as the title.
 const openedWord = found => [
   `opened: ${found.map(baseOf).join(', ')}`,
-  ...found.filter(file => file.told.length).map(file => `${baseOf(file)}: ${file.told.join(', ')}`),
+  ...found.filter(file => file.notes.length).map(file => `${baseOf(file)}: ${file.notes.join(', ')}`),
 ].join(' — ');
 
 const folderOf = name => name.includes('/') ? name.split('/').slice(-2)[0] : name;

@@ -4,7 +4,7 @@
 export const stories = [
   {
     title: "A region of 112 events",
-    told: "six lines, drawn, with a timetable to make better",
+    told: "six lines with a timetable to make better",
     texts: {
       activities: `activity; from; to; lower; upper; weight
 1; 1; 2; 16; 18; 138

@@ -6,6 +6,7 @@ import { noLabels, readLabels, readPlaces } from '../base/labels.js';
 import { EVENTS, numberIn, numbersIn, RESIDUES, rowsIn } from '../base/records.js';
 import { openBase } from '../session/session.js';
 import { isAdopt, timesOfFile } from '../base/times.js';
+import { faultInWords } from '../session/wording.js';
 
 // Edits and lines about times; a file of lines may have questions too, which make nothing.
 const makes = line => beginsEdit(line) || /^\s*adopt/.test(line);
@@ -62,5 +63,5 @@ export const openTexts = (texts, title, period = 60, again = undefined) => {
   return play(base).then(played => {
     if (played) open(played);
     return played !== null;
-  });
+  }, fault => { throw faultInWords(fault, given, labels); });
 };

@@ -1,5 +1,6 @@
 // What a step changes: the cost and the count of what is violated, beside those of the state before it.
 
+import { costMoreText } from '../session/costs.js';
 import { find, say } from '../base/elements.js';
 import { leftText } from './moving.js';
 import { session } from '../session/session.js';
@@ -33,23 +34,23 @@ const note = (name, view, more, words) => {
   classList.toggle('less', more < 0n);
   return more || (view.isTried && more !== null) ? worded(more) : words;
 };
-export const costNote = view => note('cost', view, costMore(view), 'weight times slack');
+export const costNote = view => note('cost', view, costMore(view), 'less is better');
 export const violatedNote = (view, words) => {
-  const told = note('violations', view, violatedMore(view), '');
-  return told ? `${words.slice(0, 1)} ${told}` : words;
+  const change = note('violations', view, violatedMore(view), '');
+  return change ? `${words.slice(0, 1)} ${change}` : words;
 };
 
 // The same in words, for a step that has a title.
-const told = view => {
+const changesText = view => {
   const cost = costMore(view), count = countViolated(view);
   const violated = count ? `${count} violated, ${worded(violatedMore(view))}` : 'nothing is violated';
-  return [`cost ${worded(cost)}`, violated, leftText(view), untimedText(view)].filter(Boolean).join('; ');
+  return [costMoreText(cost), violated, leftText(view), untimedText(view)].filter(Boolean).join('; ');
 };
 
 export const changingPanel = {
   update: view => {
     if (view === drawn) return;
     follow(view);
-    if (view.title) say(`${view.title}: ${told(view)}`);
+    if (view.title) say(`${view.title}: ${changesText(view)}`);
   },
 };

@@ -1,17 +1,17 @@
 // The departure of the chosen event's train, from which its other times follow by its least minutes; trains that are tied to it follow too.
 
+import { display } from '../session/display.js';
 import { edit } from '../base/edits.js';
 import { element, find, setText } from '../base/elements.js';
 import { factForm, minuteOf, minutesField } from './fields.js';
 import { clock, labelOf, minuteField, trainName } from '../session/names.js';
 import { doStep } from '../session/session.js';
-import { shown } from '../session/shown.js';
 import { trainAt } from '../session/trains.js';
 import { tiedTrains } from './twins.js';
 
 // The times of a train that leaves at a minute.
 const timesFrom = ({ events, steps }, minute) => {
-  const { activities, period } = shown.view.network;
+  const { activities, period } = display.view.network;
   let time = minute;
   return events.map((event, place) => {
     if (place) time += activities.get(steps[place - 1]).lower;
@@ -20,7 +20,7 @@ const timesFrom = ({ events, steps }, minute) => {
 };
 
 const depart = () => {
-  const { train } = trainAt(shown.chosen), minute = minuteOf(find('depart-at'));
+  const { train } = trainAt(display.chosen), minute = minuteOf(find('depart-at'));
   const lines = tiedTrains(train).flatMap(tied => timesFrom(tied.train, minute + tied.minutes));
   doStep(lines, { title: `${trainName(train, train.events[0])} leaves ${train.stations[0]} at ${clock(minute)}, with its least minutes` });
 };
@@ -32,7 +32,7 @@ export const departingPanel = {
     if (!find('depart-at')) find('move').prepend(form());
   },
   update: view => {
-    const of = trainAt(shown.chosen), field = find('depart-at');
+    const of = trainAt(display.chosen), field = find('depart-at');
     if (!of) return;
     const [first] = of.train.events, time = view.times.get(first);
     setText(field.previousSibling, `its train leaves ${labelOf(first).station} at`);

@@ -2,11 +2,11 @@
 
 import { drawBar, makeBar } from './bars.js';
 import { conflictsOf } from '../session/conflicts.js';
+import { display } from '../session/display.js';
 import { element, find } from '../base/elements.js';
 import { bringMinute } from '../session/extent.js';
 import { drawRow, makeRow } from './rows.js';
 import { choose, chooseAmong, redraw } from '../session/session.js';
-import { shown } from '../session/shown.js';
 
 const ROWS_OF_A_BLOCK = 40;
 // The pixels that the head of the rows takes of them.
@@ -58,8 +58,8 @@ export const eventsPanel = { build, update };
 
 // Chooses an event, whose time is shown where minutes are zoomed.
 const chooseSeen = event => {
-  const time = shown.view.times.get(event), isMoved = time !== undefined && bringMinute(time);
-  if (isMoved && event === shown.chosen) redraw();
+  const time = display.view.times.get(event), isMoved = time !== undefined && bringMinute(time);
+  if (isMoved && event === display.chosen) redraw();
   choose(event);
 };
 
@@ -75,10 +75,10 @@ export const showRow = (event, isFocused = true) => {
 // The same for a train, whose bar gets the keys; without times it has none.
 export const showBar = event => {
   const bar = bars.find(({ train }) => train.events.includes(event));
-  showRow(event, !bar || bar.way.hidden);
-  if (!bar || bar.way.hidden) return;
+  showRow(event, !bar || bar.handle.hidden);
+  if (!bar || bar.handle.hidden) return;
   bar.node.scrollIntoView({ block: 'nearest' });
-  bar.way.focus({ preventScroll: true });
+  bar.handle.focus({ preventScroll: true });
 };
 
 // The same for what is chosen elsewhere, so that nothing but the rows is scrolled; below a pointer minutes stay where they are.

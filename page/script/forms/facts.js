@@ -1,11 +1,11 @@
 // The chosen event in words, with fields to say what holds it and when it is.
 
+import { display } from '../session/display.js';
 import { edit } from '../base/edits.js';
 import { element, find, setText } from '../base/elements.js';
 import { clockTyped, factForm, minutesField, minutesTyped } from './fields.js';
-import { domainText, eventName, labelOf, lengthText, minuteField, unitText } from '../session/names.js';
+import { domainText, eventName, lengthText, minuteField, unitText } from '../session/names.js';
 import { doStep } from '../session/session.js';
-import { shown } from '../session/shown.js';
 import { letGo } from './strips.js';
 
 const fieldOf = id => minutesField({ id, required: true });
@@ -14,13 +14,13 @@ const valueOf = (id, read = clockTyped) => read(find(id).value);
 
 // The fields stay where they are, so that what is typed there is not lost when something else is drawn.
 const build = () => {
-  const hold = factForm(() => doStep([edit.window(shown.chosen, valueOf('hold-first'), valueOf('hold-length', minutesTyped))]),
+  const hold = factForm(() => doStep([edit.window(display.chosen, valueOf('hold-first'), valueOf('hold-length', minutesTyped))]),
     element('label', { for: 'hold-first' }, 'held from'), fieldOf('hold-first'),
     element('label', { for: 'hold-length' }, 'for'), fieldOf('hold-length'), element('span', { id: 'hold-unit' }), ' ',
-    element('button', {}, 'Hold'), element('button', { type: 'button', id: 'let-go', onclick: () => letGo(shown.chosen, false) }, 'Let go'));
-  const time = factForm(() => doStep([edit.time(shown.chosen, valueOf('time-at'))]),
+    element('button', {}, 'Hold'), element('button', { type: 'button', id: 'let-go', onclick: () => letGo(display.chosen, false) }, 'Let go'));
+  const time = factForm(() => doStep([edit.time(display.chosen, valueOf('time-at'))]),
     element('label', { for: 'time-at' }, 'time'), fieldOf('time-at'),
-    element('button', {}, 'Set'), element('button', { type: 'button', id: 'no-time', onclick: () => letGo(shown.chosen, true) }, 'Take away'));
+    element('button', {}, 'Set'), element('button', { type: 'button', id: 'no-time', onclick: () => letGo(display.chosen, true) }, 'Take away'));
   find('facts').replaceChildren(hold, time);
 };
 
@@ -30,12 +30,11 @@ const setValue = (id, value) => {
 };
 
 const update = view => {
-  const event = shown.chosen, isThere = event !== null && view.domains.has(event);
+  const event = display.chosen, isThere = event !== null && view.domains.has(event);
   find('chosen').hidden = !isThere;
   if (!isThere) return;
   const window = view.network.windows.get(event), time = view.times.get(event), minutes = view.domains.get(event);
   setText(find('chosen-name'), eventName(event));
-  setText(find('chosen-number'), labelOf(event).station ? `event ${event}` : '');
   setText(find('chosen-minutes'), `Can be at ${domainText(minutes, view.network.period)}.`);
   setValue('hold-first', minuteField(window ? window.first : time === undefined ? minutes[0] || 0 : time));
   setValue('hold-length', lengthText(window ? window.length : 1));

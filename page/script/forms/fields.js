@@ -1,8 +1,8 @@
 // Fields for numbers. The program is given what is typed there, and says what it does not take.
 
+import { display } from '../session/display.js';
 import { element, say } from '../base/elements.js';
 import { clock, isOfHours, lengthText } from '../session/names.js';
-import { shown } from '../session/shown.js';
 
 const CLOCK = /^([+-]?)([0-9]*):([0-5][0-9])$/, FOUR_DIGITS = /^()(0[0-9])([0-5][0-9])$/, OF_A_DAY = /^()([0-2][0-9])([0-5][0-9])$/;
 
@@ -19,7 +19,7 @@ export const clockTyped = text => minutesIn(text.trim(), [CLOCK, isOfHours() ? O
 
 // The minute of the period that is typed in a field; null where nothing is. Raises Error.
 export const minuteOf = field => {
-  const { period } = shown.view.network, text = clockTyped(field.value);
+  const { period } = display.view.network, text = clockTyped(field.value);
   if (text && !(/^[0-9]+$/.test(text) && Number(text) < period)) throw new Error(`${field.value}: wanted a minute up to ${clock(period - 1)}`);
   return text ? Number(text) : null;
 };

@@ -1,10 +1,10 @@
 // A line that is typed as a table of its stops, and added as trains of one or of both directions, in one step.
 
+import { display } from '../session/display.js';
 import { element, find, setText } from '../base/elements.js';
 import { showRow } from './events.js';
 import { minuteOf, minutesTyped, submits } from './fields.js';
 import { addActivity, addEvent, beginMade, doMade } from './making.js';
-import { shown } from '../session/shown.js';
 import { hourlyText, rhythmOf, tie } from './twins.js';
 
 const SPAN = /^([0-9:]+)(?:\s*(?:-|–|to)\s*([0-9:]+))?$/;
@@ -67,19 +67,19 @@ const addTrains = (made, stops, line, id) => {
 };
 
 const add = () => {
-  const stops = stopsTyped(), before = shown.labels.events, made = beginMade(), valueOf = id => find(id).value.trim();
+  const stops = stopsTyped(), before = display.labels.events, made = beginMade(), valueOf = id => find(id).value.trim();
   const line = { name: valueOf('line-name'), weight: valueOf('line-weight'), rhythm: rhythmOf(valueOf('line-hourly')) };
   addTrains(made, stops, line, 'line-leaves');
   if (find('both-ways').checked) addTrains(made, reversed(stops), line, 'line-back');
   doMade(made, `line ${line.name} added: ${stops[0].station} – ${stops[stops.length - 1].station}`);
   find('lining').close();
-  showRow(shown.view.network.events.find(event => !before.has(event) && made.events.has(event)));
+  showRow(display.view.network.events.find(event => !before.has(event) && made.events.has(event)));
 };
 
 const tell = text => setText(find('lining-fault'), text);
 
 export const showLining = () => {
-  const stations = new Set([...shown.labels.events.values()].map(each => each.station));
+  const stations = new Set([...display.labels.events.values()].map(each => each.station));
   find('known-stations').replaceChildren(...[...stations].slice(0, 1000).map(station => element('option', { value: station })));
   find('lining-form').reset();
   find('line-hourly').value = hourlyText(1);

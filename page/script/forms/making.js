@@ -1,16 +1,16 @@
 // A step that adds or drops events and activities together with their names.
 
+import { display } from '../session/display.js';
 import { edit, windowEdit } from '../base/edits.js';
 import { find } from '../base/elements.js';
 import { doStep } from '../session/session.js';
-import { shown } from '../session/shown.js';
 
 // A number above all that are taken.
 const freeNumber = (...taken) => taken.reduce((most, keys) => [...keys].reduce((one, other) => Math.max(one, other), most), 0) + 1;
 
 // Nothing yet: the commands, those of times, which come last, the names, and the next numbers.
 export const beginMade = () => {
-  const { network } = shown.view, { events, kinds } = shown.labels;
+  const { network } = display.view, { events, kinds } = display.labels;
   return { edits: [], times: [], events: new Map(events), kinds: new Map(kinds),
     event: freeNumber(network.events, events.keys()), activity: freeNumber(network.activities.keys(), kinds.keys()) };
 };
@@ -19,7 +19,7 @@ export const beginMade = () => {
 export const addEvent = (made, label, time = null) => {
   made.edits.push(edit.addEvent(made.event));
   made.events.set(made.event, label);
-  if (time !== null) made.times.push(edit.time(made.event, time % shown.view.network.period));
+  if (time !== null) made.times.push(edit.time(made.event, time % display.view.network.period));
   return made.event++;
 };
 
@@ -29,7 +29,7 @@ export const addActivity = (made, ends, span, weight, kind) => {
   made.activity += 1;
 };
 
-const activitiesAt = events => [...shown.view.network.activities.values()].filter(each => events.has(each.first) || events.has(each.last));
+const activitiesAt = events => [...display.view.network.activities.values()].filter(each => events.has(each.first) || events.has(each.last));
 
 export const dropEvents = (made, events) => {
   for (const { number } of activitiesAt(new Set(events))) {
@@ -45,15 +45,15 @@ export const dropEvents = (made, events) => {
 // Adds some events once more, so many minutes later, with what lies between them and the headways to others; `line` is the name of
 // theirs. The new events are given in the same order.
 export const copyEvents = (made, events, minutes, line = null) => {
-  const { network: { period, windows }, times } = shown.view, copies = new Map();
+  const { network: { period, windows }, times } = display.view, copies = new Map();
   for (const event of events) {
-    const label = shown.labels.events.get(event), window = windows.get(event);
+    const label = display.labels.events.get(event), window = windows.get(event);
     const copy = addEvent(made, { ...label, line: line || label.line }, times.has(event) ? times.get(event) + minutes : null);
     if (window) made.edits.push(windowEdit(copy, (window.first + minutes) % period, window.length));
     copies.set(event, copy);
   }
   for (const { number, first, last, lower, upper, weight } of activitiesAt(copies)) {
-    const kind = shown.labels.kinds.get(number), isInner = copies.has(first) && copies.has(last);
+    const kind = display.labels.kinds.get(number), isInner = copies.has(first) && copies.has(last);
     if (isInner || kind === 'headway') addActivity(made, [first, last].map(event => copies.get(event) || event), [lower, upper], weight, kind);
   }
   return [...copies.values()];
@@ -61,5 +61,5 @@ export const copyEvents = (made, events, minutes, line = null) => {
 
 // Does it as one step. Raises Error where the program refuses a part of it, and then nothing has changed.
 export const doMade = ({ edits, times, events, kinds }, title = '') => {
-  if (!doStep([...edits, ...times], { title, labels: { ...shown.labels, events, kinds } })) throw new Error(find('said').textContent);
+  if (!doStep([...edits, ...times], { title, labels: { ...display.labels, events, kinds } })) throw new Error(find('said').textContent);
 };

@@ -2,6 +2,7 @@
 // in one step. Those without a time are left. No window stops a train: what is left is violated, and told at its place.
 
 import { isOutside, outsideText } from '../session/conflicts.js';
+import { display } from '../session/display.js';
 import { edit } from '../base/edits.js';
 import { element, find, say } from '../base/elements.js';
 import { factForm, minutesField, minutesTyped } from './fields.js';
@@ -9,7 +10,6 @@ import { beginDrag } from './handles.js';
 import { eventName, labelOf, lengthText, minutesText, trainName } from '../session/names.js';
 import { doByHand } from './rest.js';
 import { choose, redraw, timesNow } from '../session/session.js';
-import { shown } from '../session/shown.js';
 import { forgetStaying, isStaying, setStaying, trainAt } from '../session/trains.js';
 import { tiedTrains } from './twins.js';
 
@@ -17,13 +17,13 @@ import { tiedTrains } from './twins.js';
 let moved = null;
 
 const stay = isKept => {
-  setStaying(shown.chosen, isKept);
+  setStaying(display.chosen, isKept);
   redraw();
 };
 
 // So many minutes within half a period either way; a train that is moved by a period is where it was.
 const withinPeriod = minutes => {
-  const { period } = shown.view.network, later = ((minutes % period) + period) % period;
+  const { period } = display.view.network, later = ((minutes % period) + period) % period;
   return 2 * later <= period && !(2 * later === period && minutes < 0) ? later : later - period;
 };
 
@@ -33,7 +33,7 @@ const begun = (event, isFromHere) => {
 };
 
 const lines = () => {
-  const { period } = shown.view.network, times = timesNow(), minutes = ((moved.minutes % period) + period) % period;
+  const { period } = display.view.network, times = timesNow(), minutes = ((moved.minutes % period) + period) % period;
   return minutes ? moved.events.filter(event => times.has(event)).map(event => edit.time(event, (times.get(event) + minutes) % period)) : [];
 };
 
@@ -80,7 +80,7 @@ export const leftText = view => {
 
 const form = () => {
   const count = minutesField({ id: 'move-by', required: true, value: 1 });
-  const go = sign => count.checkValidity() && moveTrain(shown.chosen, sign * minutesTyped(count.value) || 0, find('from-here').checked);
+  const go = sign => count.checkValidity() && moveTrain(display.chosen, sign * minutesTyped(count.value) || 0, find('from-here').checked);
   const button = (sign, name) => element('button', { type: 'button', id: `move-${name}`, onclick: () => go(sign) }, name);
   return factForm(() => go(1), element('label', { for: 'move-by' }, 'move its train by'), count, 'minutes',
     button(-1, 'earlier'), button(1, 'later'), element('label', {}, element('input', { type: 'checkbox', id: 'from-here' }), ' from here on'),
@@ -93,7 +93,7 @@ export const movingPanel = {
     if (!find('move-by')) find('move').append(form());
   },
   update: () => {
-    find('move').hidden = !trainAt(shown.chosen);
-    find('train-stays').checked = isStaying(shown.chosen);
+    find('move').hidden = !trainAt(display.chosen);
+    find('train-stays').checked = isStaying(display.chosen);
   },
 };

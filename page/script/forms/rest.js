@@ -1,30 +1,31 @@
 // The rest of a timetable follows a hand, where that is ticked: beside what is dragged, or was moved by a key, all other events are where
 // the best timetable has them, or the nearest one. A Worker of its own looks for it.
 
+import { display } from '../session/display.js';
 import { timeEdits } from '../base/edits.js';
 import { find, sayMore } from '../base/elements.js';
+import { componentsOf } from '../base/network.js';
 import { doStep, eventsMoved, extendStep, markNow, present, preview, stepNow, timesNow } from '../session/session.js';
-import { shown } from '../session/shown.js';
 import { stayingEvents } from '../session/trains.js';
 import { turned } from '../base/turning.js';
 import { soleWorker } from '../base/workers.js';
 
-const follower = soleWorker(), NONE = { kind: '', edits: [] };
+const follower = soleWorker(), NONE = { kind: '', edits: [], mode: '' };
 
 // What the hand does now, null where nothing, with what was shown before and the rest that is shown with it; and what was found last.
 let hand = null, last = NONE, hear = () => {};
 
 export const hearRest = listener => { hear = listener; };
 
-const way = () => find('always').checked ? find('rest').value : '';
+const mode = () => find('always').checked ? find('rest').value : '';
 
 const WHY = {
   infeasible: 'no timetable has it there', outside: 'something is moved away from where it is held', none: 'no timetable is found with it there',
 };
-const WORDS = { asked: 'the rest is looked for …', best: 'the best with it there', near: 'the nearest with it there' };
+const WORDS = { asked: 'the rest is looked for …', best: 'the best with it there', near: 'the nearest with it there', beside: 'the nearest with it there, as nothing else is held' };
 
 // What was found last beside the hand; '' where it does nothing.
-export const restText = () => WHY[last.kind] ? `✕ ${WHY[last.kind]}` : WORDS[last.kind] || (last.kind ? `${last.kind === 'stopped' ? 'perhaps ' : ''}${WORDS[way()]}` : '');
+export const restText = () => WHY[last.kind] ? `✕ ${WHY[last.kind]}` : WORDS[last.kind] || (last.kind ? `${last.kind === 'stopped' ? 'perhaps ' : ''}${WORDS[last.mode]}` : '');
 
 const timesIn = edits => new Map(edits.filter(({ kind }) => kind === 'time').map(({ numbers }) => numbers));
 
@@ -33,18 +34,25 @@ const restAt = now => {
   hear();
 };
 
+// Whether just the hand's own holds what is joined to it: the best would then be all of that, turned with the hand.
+const isTurned = (own, held) => {
+  const { events, activities, windows } = display.view.network, component = [...componentsOf(events, activities.values())].find(each => each.some(event => own.has(event)));
+  return Boolean(component) && !component.some(event => windows.has(event) || (held.has(event) && !own.has(event)));
+};
+
 // What the hand changes, with the events where it has them, and those that it has moved before or that are to stay.
 const questionOf = edits => {
   const times = timesNow(), stay = [...eventsMoved(), ...stayingEvents()].filter(event => times.has(event)), others = edits.filter(({ kind }) => kind !== 'time');
   const held = new Map(stay.map(event => [event, times.get(event)]));
-  for (const [event, time] of timesIn(edits)) held.set(event, time);
-  return { held, asked: { kind: 'hand', mark: markNow(), ...present(), way: way(), edits: others.map(({ line }) => line), held: [...held], times: [...new Map([...times, ...held])], events: shown.view.network.events } };
+  const own = timesIn(edits), followed = mode() === 'best' && isTurned(own, held) ? 'beside' : mode();
+  for (const [event, time] of own) held.set(event, time);
+  return { held, followed, asked: { kind: 'hand', mark: markNow(), ...present(), mode: followed === 'best' ? 'best' : 'near', edits: others.map(({ line }) => line), held: [...held], times: [...new Map([...times, ...held])], events: display.view.network.events } };
 };
 
 // The edits that set all other events, turned as a whole to where they are where nothing holds them.
 const editsTo = (found, { held, asked }) => {
-  const times = timesNow(), { network } = shown.view, windows = new Map([...network.windows, ...held]);
-  const others = asked.way === 'best' ? turned(found, { network: { ...network, windows }, times }) : found;
+  const times = timesNow(), { network } = display.view, windows = new Map([...network.windows, ...held]);
+  const others = asked.mode === 'best' ? turned(found, { network: { ...network, windows }, times }) : found;
   return timeEdits([...others].filter(([event, time]) => !held.has(event) && times.get(event) !== time));
 };
 
@@ -52,7 +60,7 @@ const editsTo = (found, { held, asked }) => {
 const ask = (question, tell) => {
   restAt({ ...NONE, kind: 'asked' });
   follower.ask(question.asked, ({ near, isDone }) => {
-    restAt({ kind: near ? near.kind : 'none', edits: near && near.times ? editsTo(near.times, question) : [] });
+    restAt({ kind: near ? near.kind : 'none', edits: near && near.times ? editsTo(near.times, question) : [], mode: question.followed });
     tell(last, isDone);
   });
 };
@@ -78,8 +86,8 @@ const askForHand = () => {
 
 // Shows what edits of a drag make, with the rest beside it: until that is known, where it was beside the hand last.
 export const showHand = (edits, title) => {
-  if (!way()) return preview(edits, title);
-  const isAsked = hand && follower.of(), { before, rest } = hand || { before: shown.view.before || shown.view, rest: NONE };
+  if (!mode()) return preview(edits, title);
+  const isAsked = hand && follower.of(), { before, rest } = hand || { before: display.view.before || display.view, rest: NONE };
   hand = { edits, title, before, rest, isKnown: false, question: questionOf(edits) };
   draw();
   return isAsked ? null : askForHand();
@@ -91,29 +99,29 @@ export const leaveHand = () => {
   [hand, last] = [null, NONE];
 };
 
-const titleWith = (edits, title) => `${title || edits[0].line}, and the rest follows`;
+const FOLLOWS = ', and the rest follows';
 
 const sayWhy = ({ kind }) => WHY[kind] && sayMore(`the rest stays: ${WHY[kind]}`);
 
 // The step of a hand is done: the rest follows as soon as it is known, as a part of that step, where no other one came.
-const followLater = (question, edits, title) => {
+const followLater = question => {
   const step = stepNow();
   ask(question, (found, isDone) => {
-    if (!isDone || stepNow() !== step || shown.view.isTried) return;
+    if (!isDone || stepNow() !== step || display.view.isTried) return;
     restAt(NONE);
-    if (found.edits.length) extendStep(found.edits, titleWith(edits, title));
+    if (found.edits.length) extendStep(found.edits, `${step.title}${FOLLOWS}`);
     else sayWhy(found);
   });
 };
 
 // Does some edits as one step of a hand, which the rest follows.
 export const doByHand = (edits, title = '') => {
-  const taken = hand && hand.edits === edits && hand.isKnown ? hand.rest : null, question = way() && !taken ? questionOf(edits) : null;
+  const taken = hand && hand.edits === edits && hand.isKnown ? hand.rest : null, question = mode() && !taken ? questionOf(edits) : null;
   leaveHand();
   const isFollowed = taken && taken.edits.length > 0;
-  if (!doStep(isFollowed ? [...edits, ...taken.edits] : edits, { title: isFollowed ? titleWith(edits, title) : title, own: edits })) return;
+  if (!doStep(isFollowed ? [...edits, ...taken.edits] : edits, { title, own: edits, also: isFollowed ? FOLLOWS : '' })) return;
   if (taken) sayWhy(taken);
-  if (question) followLater(question, edits, title);
+  if (question) followLater(question);
 };
 
 export const endRest = () => {

@@ -1,10 +1,10 @@
 // The row of an event: its name, its time, the strip of its domain with what holds it, and a word on that.
 
-import { conflictsOfRow, isOutside, shortConflicts, toldConflicts } from '../session/conflicts.js';
+import { conflictsOfRow, detailsOf, isOutside, shortConflicts } from '../session/conflicts.js';
+import { display } from '../session/display.js';
 import { drawing, element, setText } from '../base/elements.js';
 import { makeHandle, tellHandle } from './handles.js';
 import { clock, domainText, eventName, eventShort, runsOf, twinText, windowText } from '../session/names.js';
-import { shown } from '../session/shown.js';
 
 // An event's row, with what was drawn last, so that only what changed is drawn again.
 export const makeRow = event => {
@@ -51,7 +51,7 @@ const once = (row, name, value, draw) => {
 
 const grip = (row, name, label) => {
   if (!row[name]) {
-    const more = { 'data-grip': name, tabindex: shown.chosen === row.event ? 0 : -1 };
+    const more = { 'data-grip': name, tabindex: display.chosen === row.event ? 0 : -1 };
     row[name] = makeHandle(`grip ${name}`, `${eventName(row.event)}: ${label}`, more);
     row.strip.append(row[name]);
   }
@@ -109,7 +109,7 @@ const drawBroken = (row, isBroken, conflicts) => {
   row.notes.replaceChildren(row.note);
   if (!conflicts.length) return;
   row.notes.append(element('button', {
-    class: 'conflict', type: 'button', tabindex: shown.chosen === row.event ? 0 : -1, title: toldConflicts(conflicts),
+    class: 'conflict', type: 'button', tabindex: display.chosen === row.event ? 0 : -1, title: detailsOf(conflicts),
     'data-conflict': conflicts[0].number,
   }, shortConflicts(conflicts)));
 };
@@ -122,7 +122,7 @@ const isSeen = (seen, before) => {
 // Draws what is new about an event, of which `conflicts` are what is violated there, if anything.
 export const drawRow = (row, view, conflicts) => {
   const { event } = row, period = view.network.period, minutes = view.domains.get(event), window = view.network.windows.get(event);
-  const isViolated = isOutside(view, event), isChosen = shown.chosen === event, broken = toldOf(conflicts), twin = twinText(event);
+  const isViolated = isOutside(view, event), isChosen = display.chosen === event, broken = toldOf(conflicts), twin = twinText(event);
   const seen = [minutes, period, window && window.first, window && window.length, view.times.get(event), isViolated, isChosen, broken, twin];
   if (row.seen && isSeen(seen, row.seen)) return;
   row.seen = seen;

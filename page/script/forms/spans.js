@@ -1,6 +1,8 @@
 // The activities at the chosen event: their spans with ends to drag, and the tension and slack on them.
 
 import { dropActivity } from './adding.js';
+import { costName, costsText } from '../session/costs.js';
+import { display } from '../session/display.js';
 import { edit } from '../base/edits.js';
 import { element, elided, find, setText } from '../base/elements.js';
 import { bringRow, showRow } from './events.js';
@@ -9,7 +11,6 @@ import { beginDrag, makeHandle, moveOf, tellHandle, unitAt } from './handles.js'
 import { activityName, kindOf, lengthText, minutesText, spanMinutes } from '../session/names.js';
 import { doByHand } from './rest.js';
 import { doStep } from '../session/session.js';
-import { shown } from '../session/shown.js';
 import { minutesHad } from '../base/viewing.js';
 
 // So many activities have a card; of more a word says so.
@@ -29,7 +30,7 @@ const activitiesAt = ({ activities }, event) => {
 };
 
 const update = view => {
-  const all = activitiesAt(view.network, shown.chosen);
+  const all = activitiesAt(view.network, display.chosen);
   const some = all.slice(0, MOST_CARDS), wanted = [all.length, ...some.map(each => `${each.number} ${activityName(each)}`)];
   if (wanted.join() !== listed.join() || !all.length) {
     listed = wanted;
@@ -40,16 +41,16 @@ const update = view => {
 };
 
 const beyond = ({ length }) => {
-  const told = elided(length, MOST_CARDS, 'activities at this event');
-  return !length || told ? [element('p', { class: 'quiet' }, told || 'No activity is at this event.')] : [];
+  const summary = elided(length, MOST_CARDS, 'activities at this event');
+  return !length || summary ? [element('p', { class: 'quiet' }, summary || 'No activity is at this event.')] : [];
 };
 
 export const spansPanel = { build, update };
 
 // Brings the card of an activity to where it is seen, and the keys to it; one of its events is chosen first.
 export const showActivity = (number, event = null) => {
-  const { first, last } = shown.view.network.activities.get(number);
-  bringRow(event !== null ? event : shown.chosen === last ? last : first);
+  const { first, last } = display.view.network.activities.get(number);
+  bringRow(event !== null ? event : display.chosen === last ? last : first);
   const card = cards.get(number);
   for (const each of cards.values()) each.node.classList.toggle('chosen', each === card);
   if (!card) return;
@@ -64,22 +65,22 @@ const field = (card, name, label, make = minutesField) => {
 
 // The card of an activity; its `range` is what its track shows, and stays while an end is dragged.
 const makeCard = ({ number, first, last }) => {
-  const card = { number, drawn: '' }, activity = shown.view.network.activities.get(number), name = activityName(activity);
-  const other = first === shown.chosen ? last : first;
+  const card = { number, drawn: '' }, activity = display.view.network.activities.get(number), name = activityName(activity);
+  const other = first === display.chosen ? last : first;
   card.bar = element('span', { class: 'bar' });
   card.slack = element('span', { class: 'slack' });
   card.tension = element('span', { class: 'tension' });
   card.lower = makeHandle('grip lower', `${name}: least minutes`, { tabindex: 0, 'data-end': 'lower' });
   card.upper = makeHandle('grip upper', `${name}: most minutes`, { tabindex: 0, 'data-end': 'upper' });
   card.track = element('div', { class: 'track' }, card.bar, card.slack, card.tension, card.lower, card.upper);
-  card.told = element('span', { class: 'told' });
+  card.summary = element('span', { class: 'told' });
   const fields = element('div', { class: 'fields' }, element('label', {}, 'from ', field(card, 'least', `${name}: least minutes`)),
     element('label', {}, 'to ', field(card, 'most', `${name}: most minutes`)),
-    element('label', {}, 'weight ', field(card, 'weight', `${name}: cost of a minute of slack`, numberField)),
-    element('button', { class: 'small', type: 'button', 'data-price': number, title: 'what each length costs', hidden: activity.lower === activity.upper }, 'Prices'),
-    element('button', { class: 'drop', onclick: () => dropActivity(number) }, `Drop ${kindOf(number)} ${number}`));
+    element('label', {}, 'weight ', field(card, 'weight', `${name}: ${costName()} of a minute of slack`, numberField)),
+    element('button', { class: 'small', type: 'button', 'data-price': number, title: `${costName()} at each length`, hidden: activity.lower === activity.upper }, 'Prices'),
+    element('button', { class: 'drop', onclick: () => dropActivity(number) }, `Drop this ${kindOf(number)}`));
   const title = element('button', { class: 'link', title: 'show the event at its other end', onclick: () => showRow(other) }, name);
-  card.node = element('div', { class: 'card', 'data-activity': number }, element('div', { class: 'title' }, title, card.told), card.track, fields);
+  card.node = element('div', { class: 'card', 'data-activity': number }, element('div', { class: 'title' }, title, card.summary), card.track, fields);
   card.track.addEventListener('pointerdown', event => begin(card, event));
   card.track.addEventListener('keydown', event => typed(card, event));
   return card;
@@ -114,7 +115,7 @@ const drawCard = (card, activity, view) => {
     place(card.tension, card, taken.tension, taken.tension + 1);
   }
   card.node.classList.toggle('alarm', isViolated);
-  setText(card.told, toldOf(taken, had, isViolated, weight));
+  setText(card.summary, toldOf(taken, had, isViolated, weight));
   for (const [input, value] of [[card.least, lengthText(lower)], [card.most, lengthText(upper)], [card.weight, weight]]) {
     if (document.activeElement !== input || document.body.classList.contains('dragging')) input.value = value;
   }
@@ -123,7 +124,7 @@ const drawCard = (card, activity, view) => {
 // What is violated may be counted as a period more than it takes.
 const toldOf = (taken, had, isViolated, weight) => {
   if (!taken) return 'one of its ends has no time';
-  const cost = weight && taken.slack ? `, costs ${(weight * taken.slack).toLocaleString('en')}` : '';
+  const cost = weight && taken.slack ? `, ${costsText(weight * taken.slack)}` : '';
   const counted = had === taken.tension ? '' : `, counted as ${lengthText(taken.tension)}`;
   return `${isViolated ? '✕ not met: ' : '✓ '}takes ${minutesText(had)}${counted}, slack ${lengthText(taken.slack)}${cost}`;
 };
@@ -147,7 +148,7 @@ const begin = (card, event) => {
   const { least, count } = card.range, minuteAt = x => unitAt(card.track, x, least, count);
   const handle = event.target.closest('[data-end]'), end = handle ? handle.dataset.end : 'both';
   if (end === 'both' && event.target !== card.bar && event.target !== card.slack) return;
-  const before = shown.view.network.activities.get(card.number), start = minuteAt(event.clientX);
+  const before = display.view.network.activities.get(card.number), start = minuteAt(event.clientX);
   if (handle) handle.focus({ preventScroll: true });
   event.preventDefault();
   beginDrag(event, x => [spanLine(card.number, before, end, minuteAt(x) - start)]);
@@ -157,16 +158,16 @@ const typed = (card, event) => {
   const move = moveOf(event), { end } = event.target.dataset;
   if (!move || !end) return;
   event.preventDefault();
-  doByHand([spanLine(card.number, shown.view.network.activities.get(card.number), event.shiftKey ? 'both' : end, move)]);
+  doByHand([spanLine(card.number, display.view.network.activities.get(card.number), event.shiftKey ? 'both' : end, move)]);
 };
 
 const change = card => {
-  const before = shown.view.network.activities.get(card.number);
+  const before = display.view.network.activities.get(card.number);
   const [lower, upper] = [card.least, card.most].map(input => minutesTyped(input.value)), weight = card.weight.value.trim();
   const lines = [];
   if (lower !== String(before.lower) || upper !== String(before.upper)) lines.push(edit.span(card.number, lower, upper));
   if (weight !== String(before.weight)) lines.push(edit.weight(card.number, weight));
   if (lines.length) doStep(lines);
   card.drawn = '';
-  drawCard(card, shown.view.network.activities.get(card.number), shown.view);
+  drawCard(card, display.view.network.activities.get(card.number), display.view);
 };

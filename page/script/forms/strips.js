@@ -2,6 +2,7 @@
 
 import { addHere } from './adding.js';
 import { isOutside } from '../session/conflicts.js';
+import { display } from '../session/display.js';
 import { edit, windowEdit } from '../base/edits.js';
 import { find } from '../base/elements.js';
 import { eventBeside, rowAt, showRow } from './events.js';
@@ -9,7 +10,6 @@ import { beginDrag, isFinger, minutesOfKey, moveOf, unitAt } from './handles.js'
 import { beginMove, moveTrain, wantsFromHere } from './moving.js';
 import { doByHand } from './rest.js';
 import { choose, doStep } from '../session/session.js';
-import { shown } from '../session/shown.js';
 import { showActivity } from './spans.js';
 import { trainAt } from '../session/trains.js';
 import { unfold } from './unfolding.js';
@@ -25,7 +25,7 @@ const endLine = (event, { first, length }, grip, minute, period) => {
 
 // The line of a drag that began on a strip, for each minute under the pointer.
 const lineOf = (row, target, start) => {
-  const { event } = row, { period, windows } = shown.view.network, window = windows.get(event), grip = target.dataset.grip;
+  const { event } = row, { period, windows } = display.view.network, window = windows.get(event), grip = target.dataset.grip;
   if (grip === 'now') return minute => edit.time(event, modulo(minute, period));
   if (grip) return minute => endLine(event, window, grip, modulo(grip === 'last' ? minute - 1 : minute, period), period);
   const isWithin = window && window.length > 1 && modulo(start - window.first, period) < window.length;
@@ -45,7 +45,7 @@ const begin = event => {
   const isTouch = isFinger(event);
   if (!isTouch) choose(row.event);
   if (!row.strip.contains(event.target)) return isTouch || row.strip.focus({ preventScroll: true });
-  const { period } = shown.view.network, handle = event.target.closest('[data-grip]') || row.strip;
+  const { period } = display.view.network, handle = event.target.closest('[data-grip]') || row.strip;
   const shift = handle.dataset.at === undefined ? 0 : edgeShift(row, handle, event.clientX, period);
   const minuteAt = x => unitAt(row.strip, x + shift, 0, period), line = lineOf(row, handle, minuteAt(event.clientX));
   if (!isTouch) {
@@ -62,9 +62,9 @@ const begin = event => {
 
 // What holds an event, moved by a key on its strip.
 const movedLine = (event, move, isLength) => {
-  const { period, windows } = shown.view.network, window = windows.get(event);
+  const { period, windows } = display.view.network, window = windows.get(event);
   if (!window) {
-    const [first = 0] = shown.view.domains.get(event), time = shown.view.times.get(event);
+    const [first = 0] = display.view.domains.get(event), time = display.view.times.get(event);
     return edit.fix(event, time === undefined ? first : time);
   }
   if (isLength) return windowEdit(event, window.first, Math.min(period, Math.max(1, window.length + move)));
@@ -72,8 +72,8 @@ const movedLine = (event, move, isLength) => {
 };
 
 const gripLine = (event, grip, move) => {
-  const { period, windows } = shown.view.network;
-  if (grip === 'now') return edit.time(event, modulo(shown.view.times.get(event) + move, period));
+  const { period, windows } = display.view.network;
+  if (grip === 'now') return edit.time(event, modulo(display.view.times.get(event) + move, period));
   const window = windows.get(event), end = grip === 'first' ? window.first : window.first + window.length - 1;
   return endLine(event, window, grip, modulo(end + move, period), period);
 };
@@ -97,11 +97,11 @@ const typed = event => {
 
 // Lets go of what holds an event, or takes its time away.
 export const letGo = (event, isTime) => {
-  if (isTime ? shown.view.times.has(event) : shown.view.network.windows.has(event)) doStep([isTime ? edit.untime(event) : edit.unfix(event)]);
+  if (isTime ? display.view.times.has(event) : display.view.network.windows.has(event)) doStep([isTime ? edit.untime(event) : edit.unfix(event)]);
 };
 
 // A diamond that lies in a frame hides what a hand means there.
-const isHeldThere = event => shown.view.network.windows.has(event) && !isOutside(shown.view, event);
+const isHeldThere = event => display.view.network.windows.has(event) && !isOutside(display.view, event);
 
 export const startStrips = () => {
   const panel = find('rows');

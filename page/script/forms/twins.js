@@ -1,22 +1,22 @@
 // Trains an hour: equal trains of a line, of which each event is tied to that of the first one at so many minutes, so that the search
 // has one train. They have no changes of their own, since passengers take one of the trains.
 
+import { display } from '../session/display.js';
 import { addActivity, copyEvents, dropEvents } from './making.js';
 import { trainName } from '../session/names.js';
-import { shown } from '../session/shown.js';
 import { trainAt } from '../session/trains.js';
 
 const TIE = 'twin', HOUR = 60;
 
 // How many trains a period has at so many an hour, and how many minutes lie between two; one where nothing is typed. Raises Error.
 export const rhythmOf = text => {
-  const { period } = shown.view.network, minutes = text ? HOUR / Number(text) : period, count = period / minutes;
+  const { period } = display.view.network, minutes = text ? HOUR / Number(text) : period, count = period / minutes;
   if (!Number.isInteger(minutes) || !Number.isInteger(count) || count < 1) throw new Error(`${text} trains an hour cannot come each some whole minutes in a period of ${period}.`);
   return { count, minutes };
 };
 
 // The number of trains an hour where a period has so many; '' where that is no whole number.
-export const hourlyText = count => Number.isInteger(count * HOUR / shown.view.network.period) ? String(count * HOUR / shown.view.network.period) : '';
+export const hourlyText = count => Number.isInteger(count * HOUR / display.view.network.period) ? String(count * HOUR / display.view.network.period) : '';
 
 // Ties the events of a train to those of its twin, which is so many minutes later.
 export const tie = (made, events, others, minutes) =>
@@ -24,14 +24,15 @@ export const tie = (made, events, others, minutes) =>
 
 // The trains that are tied to one, itself among them, each with the minutes by which it is later.
 export const tiedTrains = train => {
-  const ties = [...shown.view.network.activities.values()].filter(({ number }) => shown.labels.kinds.get(number) === TIE);
+  const ties = [...display.view.network.activities.values()].filter(({ number }) => display.labels.kinds.get(number) === TIE);
   const own = ties.find(({ last }) => last === train.events[0]) || { first: train.events[0], lower: 0 };
   const others = ties.filter(({ first }) => first === own.first);
   return [{ first: own.first, lower: 0 }, ...others.map(({ last, lower }) => ({ first: last, lower }))].filter(({ first }) => trainAt(first))
     .map(({ first, lower }) => ({ train: trainAt(first).train, minutes: lower - own.lower }));
 };
 
-const isFirst = train => tiedTrains(train).every(({ minutes }) => minutes >= 0);
+// Whether others are tied to a train, or none is.
+export const isFirst = train => tiedTrains(train).every(({ minutes }) => minutes >= 0);
 
 const familyOf = ({ to, stations }) => JSON.stringify([to, stations]);
 

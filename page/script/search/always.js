@@ -1,14 +1,14 @@
 // Always the best: with a tick each step is followed by a search in a Worker of its own, and how far the timetable that is shown is above
 // the best is told, beside the rest that follows a hand.
 
+import { display } from '../session/display.js';
 import { find, findAll, say, setText } from '../base/elements.js';
 import { aboveText } from './found.js';
 import { bestKnown } from './founds.js';
 import { isSure } from '../base/replies.js';
 import { endRest, hearRest, restText } from '../forms/rest.js';
-import { EVERY_CASE, foundNow, learnFound } from './searching.js';
+import { EVERY_ATTEMPT, foundNow, learnFound } from './searching.js';
 import { markNow, networkNow, present } from '../session/session.js';
-import { shown } from '../session/shown.js';
 import { soleWorker } from '../base/workers.js';
 
 // No step is searched for longer, in seconds; `ended` is the mark of the network that was searched last.
@@ -32,11 +32,11 @@ const search = events => {
   const mark = markNow(), now = foundNow(), isLeft = mark === ended || (now && isSure(now));
   if (searcher.of() && (isLeft || searcher.of().mark !== mark)) searcher.leave();
   if (isLeft || searcher.of()) return;
-  searcher.ask({ kind: 'search', mark, ...present(), most: EVERY_CASE, best: bestKnown(), events }, hearFound(mark, performance.now()));
+  searcher.ask({ kind: 'search', mark, ...present(), most: EVERY_ATTEMPT, best: bestKnown(), events }, hearFound(mark, performance.now()));
 };
 
 const tell = () => {
-  const found = foundNow(), isOfNow = isOn() && shown.view.network === networkNow(), above = !isOfNow ? '' : found ? aboveText(found, shown.view) : 'the best is looked for …';
+  const found = foundNow(), isOfNow = isOn() && display.view.network === networkNow(), above = !isOfNow ? '' : found ? aboveText(found, display.view) : 'the best is looked for …';
   setText(find('above'), [restText(), above].filter(Boolean).join('; '));
 };
 
@@ -53,7 +53,7 @@ const choose = () => {
     searcher.end();
     endRest();
   }
-  update(shown.view);
+  update(display.view);
 };
 
 export const startAlways = () => {

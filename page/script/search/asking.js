@@ -2,6 +2,7 @@
 // long files of lines. A search is stopped between two steps of the Worker, which keeps it to be gone on with; all else by ending it.
 
 import { find, lead, say } from '../base/elements.js';
+import { RunFault } from '../base/running.js';
 import { markNow, present, stepNow } from '../session/session.js';
 import { startWorker } from '../base/workers.js';
 
@@ -63,12 +64,12 @@ const ended = () => {
   lead(focused);
 };
 
-const answered = told => {
-  if (!asked || (told.id !== undefined && told.id !== asked.id)) return;
+const answered = answer => {
+  if (!asked || (answer.id !== undefined && answer.id !== asked.id)) return;
   const { tell, fail } = asked;
-  if (told.fault) fail(told.fault);
-  else tell(told);
-  if (told.isDone && asked) ended();
+  if (answer.fault) fail(answer.fault, answer.refused);
+  else tell(answer);
+  if (answer.isDone && asked) ended();
   else hear();
 };
 
@@ -86,9 +87,9 @@ export const leaveAsked = () => {
   return left;
 };
 
-// What the Worker makes of files, as one member of its answer; null where it was stopped. Rejected with the fault's text.
+// What the Worker makes of files, as one member of its answer; null where it was stopped. Rejected with RunFault.
 const made = (question, member) => new Promise((done, fail) => {
-  askFor(question, { tell: told => done(told[member]), fail: fault => fail(new Error(fault)), end: () => done(null) });
+  askFor(question, { tell: answer => done(answer[member]), fail: (fault, refused) => fail(new RunFault(fault, false, refused)), end: () => done(null) });
 });
 
 // What a base makes, as another one without lines.

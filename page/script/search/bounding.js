@@ -1,7 +1,7 @@
-// A bound below which no timetable costs, by parts of a network: what each of them costs at least, together, since nothing costs less
+// A bound below which no timetable costs, by groups of events: what each of them costs at least, together, since nothing costs less
 // than 0 between them. It is told where the program has none of the whole.
 
-import { baseOf, partsOf } from '../base/network.js';
+import { baseOf, componentsOf } from '../base/network.js';
 import { FIRST_NODES, paced } from './pacing.js';
 import { exactly, isSure } from '../base/replies.js';
 import { openSession } from '../base/running.js';
@@ -11,11 +11,11 @@ const MOST_EVENTS = 200;
 // Groups of events with few activities between them: those that cost most join events first.
 const groupsOf = ({ events, activities }) => {
   const joins = [...activities.values()].sort((one, other) => other.weight - one.weight);
-  return [...partsOf(events, joins, MOST_EVENTS)];
+  return [...componentsOf(events, joins, MOST_EVENTS)];
 };
 
 // The network of a group alone.
-const partOf = ({ period, windows, activities }, group) => {
+const networkOf = ({ period, windows, activities }, group) => {
   const events = group.sort((one, other) => one - other), has = event => events.includes(event);
   return {
     period, events, windows: new Map([...windows].filter(([event]) => has(event))),
@@ -23,23 +23,23 @@ const partOf = ({ period, windows, activities }, group) => {
   };
 };
 
-// What bounds a search. `goOn` goes on with one part after another, and gives what was found with the bound, or that there is no timetable;
-// null where all parts are done. `close` ends it.
+// What bounds a search. `goOn` goes on with one group after another, and gives what was found with the bound, or that there is no timetable;
+// null where all groups are done. `close` ends it.
 export const boundingOf = network => {
   const groups = groupsOf(network), open = groups.filter(group => group.length > 1 && groups.length > 1).map(group => ({ group, session: null, nodes: FIRST_NODES, least: 0n }));
   let least = 0n;
-  const searchPart = part => {
-    const { group, nodes } = part, from = performance.now(), session = part.session || openSession(baseOf(partOf(network, group), new Map()));
+  const searchMore = job => {
+    const { group, nodes } = job, from = performance.now(), session = job.session || openSession(baseOf(networkOf(network, group), new Map()));
     const found = session.search(nodes, group), bound = BigInt(found.bound || 0);
-    if (bound > part.least) least += bound - part.least;
+    if (bound > job.least) least += bound - job.least;
     if (isSure(found)) session.close();
-    else open.push({ group, session, nodes: paced(nodes, performance.now() - from, found.goesOn), least: bound > part.least ? bound : part.least });
+    else open.push({ group, session, nodes: paced(nodes, performance.now() - from, found.goesOn), least: bound > job.least ? bound : job.least });
     return found;
   };
   return {
     goOn: found => {
       if (!open.length) return null;
-      const { kind } = searchPart(open.shift());
+      const { kind } = searchMore(open.shift());
       return kind === 'infeasible' ? { kind } : { ...found, bound: exactly(String(least)) };
     },
     close: () => open.forEach(({ session }) => session && session.close()),

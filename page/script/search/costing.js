@@ -1,29 +1,30 @@
 // What each minute costs of the chosen event, of all of its train, and of activities at it: asked for by a tick or a button, drawn as it
 // is worked out, and taken over by a click.
 
+import { costName } from '../session/costs.js';
 import { drawCurve, hasCost, makeCurve, priceText, shadesOf, summaryOf } from './curves.js';
+import { display } from '../session/display.js';
 import { edit } from '../base/edits.js';
 import { element, find, findAll, say, setText } from '../base/elements.js';
 import { minutesOfKey, tellHandle, unitAt } from '../forms/handles.js';
 import { activityName, clock, eventName, minutesText } from '../session/names.js';
 import { carryPrices, hearPrices, isPricing, pricedMinutes, pricesOf, wantPrices } from './prices.js';
 import { doStep } from '../session/session.js';
-import { shown } from '../session/shown.js';
 import { rangeShown } from '../forms/spans.js';
 import { trainAt } from '../session/trains.js';
 
 // An event of the train and the activities that were asked for; the minute that is looked at in a picture; and the frame that waits.
 let ofTrain = null, activities = new Set(), looked = { key: '', minute: null }, frame = 0;
 
-const eventQuestion = event => ({ of: 'event', number: event, window: shown.view.network.windows.get(event) || null });
+const eventQuestion = event => ({ of: 'event', number: event, window: display.view.network.windows.get(event) || null });
 
-const activityQuestion = number => ({ of: 'activity', ...shown.view.network.activities.get(number) });
+const activityQuestion = number => ({ of: 'activity', ...display.view.network.activities.get(number) });
 
 const isOn = () => find('ask-prices').checked;
 
 // The chosen event, and where it was asked for all others of its train.
 const eventsAsked = () => {
-  const { chosen } = shown, of = trainAt(chosen);
+  const { chosen } = display, of = trainAt(chosen);
   if (!isOn()) return [];
   return of && of.train.events.includes(ofTrain) ? [chosen, ...of.train.events.filter(event => event !== chosen)] : [chosen];
 };
@@ -35,30 +36,30 @@ const questions = ({ network, domains }) => [
 ];
 
 const trackOf = ({ of, number }) => {
-  if (of === 'event') return { least: 0, count: shown.view.network.period };
+  if (of === 'event') return { least: 0, count: display.view.network.period };
   const [least, count] = rangeShown(number);
   return { least, count };
 };
 
-const told = ({ of }, minute) => of === 'event' ? `at ${clock(minute)}` : `with ${minutesText(minute)}`;
+const conditionOf = ({ of }, minute) => of === 'event' ? `at ${clock(minute)}` : `with ${minutesText(minute)}`;
 
 const nowOf = ({ of, number }, { times, tensions }) => of === 'event' ? times.get(number) : tensions.get(number)?.tension;
 
 // Another timetable as far as it is another.
 const changedTimes = ({ times }) => {
-  const { network: { events }, times: now } = shown.view;
+  const { network: { events }, times: now } = display.view;
   return events.flatMap((event, place) => now.get(event) === times[place] ? [] : [edit.time(event, times[place])]);
 };
 
 const holdEdits = ({ of, number, window }, minute) => of !== 'event' || (window && window.length === 1 && window.first === minute) ? [] : [edit.fix(number, minute)];
 
 const titleOf = ({ of, number }, minute) => of === 'event' ? `${eventName(number)}: held at ${clock(minute)}`
-  : `${activityName(shown.view.network.activities.get(number))}: ${minutesText(minute)}`;
+  : `${activityName(display.view.network.activities.get(number))}: ${minutesText(minute)}`;
 
 // Holds an event at a minute, where one was looked for, and takes the best timetable over that has it there.
 const take = (question, minute) => {
   const price = pricesOf(question).get(minute);
-  if (!hasCost(price)) return say(priceText(pricesOf(question), minute, told(question, minute)), true);
+  if (!hasCost(price)) return say(priceText(pricesOf(question), minute, conditionOf(question, minute)), true);
   const lines = [...holdEdits(question, minute), ...changedTimes(price)];
   if (!lines.length) return say('It is so already.');
   return carryPrices(question, () => doStep(lines, { title: titleOf(question, minute), isFound: true }));
@@ -102,7 +103,7 @@ const isTurned = ({ network: { windows } }, { of, number }) => of === 'event' &&
 
 const draw = (holder, question, view) => {
   const [picture, summary, at] = holder.children, prices = pricesOf(question), minute = lookedIn(question), now = nowOf(question, view), all = pricedMinutes(question);
-  const { period } = view.network, words = minute === null ? '' : priceText(prices, minute, told(question, minute));
+  const { period } = view.network, words = minute === null ? '' : priceText(prices, minute, conditionOf(question, minute));
   drawCurve(picture, prices, trackOf(question), minute === null ? now : minute);
   setText(summary, prices.size ? summaryOf(prices, all, { period, isLength: question.of !== 'event', isTurned: isTurned(view, question) }) : 'It is being worked out.');
   setText(at, words || 'A click takes a minute over with its timetable.');
@@ -114,7 +115,7 @@ const drawCards = view => {
   for (const button of findAll('[data-price]')) {
     const number = Number(button.dataset.price), holder = button.closest('.card').querySelector('.priced');
     if (!activities.has(number)) continue;
-    const made = holder || pictureOf(`${activityName(view.network.activities.get(number))}: what each length costs`, () => activityQuestion(number));
+    const made = holder || pictureOf(`${activityName(view.network.activities.get(number))}: ${costName()} at each length`, () => activityQuestion(number));
     if (!holder) button.closest('.card').querySelector('.track').after(made);
     draw(made, activityQuestion(number), view);
   }
@@ -135,13 +136,13 @@ const drawChosen = (view, event) => {
   const [holder] = findAll('#prices .priced');
   if (holder && !isOn()) holder.remove();
   if (!isOn()) return;
-  const made = holder || pictureOf('what each minute costs', () => eventQuestion(shown.chosen));
+  const made = holder || pictureOf(`${costName()} at each minute`, () => eventQuestion(display.chosen));
   if (!holder) find('prices').append(made);
   draw(made, eventQuestion(event), view);
 };
 
 const drawAll = () => {
-  const { view, chosen } = shown;
+  const { view, chosen } = display;
   frame = 0;
   if (!view || !view.domains.has(chosen)) return;
   find('prices-of-train').hidden = !isOn() || !trainAt(chosen);
@@ -156,18 +157,24 @@ const drawSoon = () => {
 };
 
 const again = () => {
-  wantPrices(questions(shown.view));
+  wantPrices(questions(display.view));
   drawSoon();
 };
 
 const askTrain = () => {
-  ofTrain = shown.chosen;
+  ofTrain = display.chosen;
   again();
 };
 
 const build = () => {
-  if (find('ask-prices')) return;
-  find('prices').append(element('label', {}, element('input', { type: 'checkbox', id: 'ask-prices', onchange: again }), ' what each minute costs '),
+  if (!find('ask-prices')) makeHands();
+  setText(find('ask-prices').nextElementSibling, ` ${costName()} at each minute `);
+  // What stands on a picture has that name too.
+  for (const picture of findAll('.priced')) picture.remove();
+};
+
+const makeHands = () => {
+  find('prices').append(element('label', {}, element('input', { type: 'checkbox', id: 'ask-prices', onchange: again }), element('span')),
     element('button', { type: 'button', id: 'prices-of-train', hidden: true, onclick: askTrain }, 'Of all of its train'));
 };
 

@@ -1,5 +1,6 @@
 // The picture of what minutes cost: a curve above shades, over as many minutes as a track shows.
 
+import { costsText, costText } from '../session/costs.js';
 import { element } from '../base/elements.js';
 import { makeHandle } from '../forms/handles.js';
 import { domainText, minutesText } from '../session/names.js';
@@ -19,10 +20,10 @@ const rangeOf = prices => {
 const leastCost = prices => (rangeOf(prices) || [null])[0];
 
 // By how much of what lies between them a price is above the least, from 0 to 1.
-const partOf = ({ cost }, [least, most]) => most === least ? 0 : Number(BigInt(cost) - least) / Number(most - least);
+const shareOf = ({ cost }, [least, most]) => most === least ? 0 : Number(BigInt(cost) - least) / Number(most - least);
 
 const colorOf = (price, range) => {
-  if (hasCost(price)) return `color-mix(in srgb, var(--dear) ${Math.round(100 * partOf(price, range))}%, var(--cheap))`;
+  if (hasCost(price)) return `color-mix(in srgb, var(--dear) ${Math.round(100 * shareOf(price, range))}%, var(--cheap))`;
   return price && price.kind === 'infeasible' ? 'var(--none)' : 'transparent';
 };
 
@@ -43,7 +44,7 @@ const edgeOf = (prices, track) => {
   const range = rangeOf(prices), points = ['0% 100%'];
   for (let minute = track.least; minute < track.least + track.count; minute += 1) {
     const price = prices.get(minute), [start, end] = [minute, minute + 1].map(each => percent(each, track).toFixed(2));
-    const height = hasCost(price) ? (100 - FLOOR) * (1 - partOf(price, range)) : 100;
+    const height = hasCost(price) ? (100 - FLOOR) * (1 - shareOf(price, range)) : 100;
     points.push(`${start}% ${height.toFixed(1)}%`, `${end}% ${height.toFixed(1)}%`);
   }
   return `polygon(${[...points, '100% 100%'].join(', ')})`;
@@ -52,7 +53,7 @@ const edgeOf = (prices, track) => {
 // A picture that is empty. What is done by a pointer and by keys there is its owner's.
 export const makeCurve = (name, more) => {
   const made = makeHandle('curve', name, { tabindex: 0, ...more });
-  made.append(...['shades', 'area', 'best', 'at'].map(part => element('span', { class: part })));
+  made.append(...['shades', 'area', 'best', 'at'].map(each => element('span', { class: each })));
   return made;
 };
 
@@ -71,23 +72,21 @@ export const drawCurve = (picture, prices, track, at) => {
   }
 };
 
-const number = cost => cost.toLocaleString('en');
-
 // What a minute costs beside the best one, in words.
 export const priceText = (prices, minute, condition) => {
   const price = prices.get(minute), least = leastCost(prices);
   if (!price) return `${condition}: not known yet`;
   if (price.kind === 'infeasible') return `${condition} there is no timetable`;
-  if (!hasCost(price)) return `${condition} none is found yet; it would cost at least ${number(price.bound)}`;
-  const more = BigInt(price.cost) - least, words = more ? `${number(more)} more` : `least: ${number(price.cost)}`;
-  return price.kind === 'optimum' ? `${condition} the best costs ${words}` : `${condition} the best that is found costs ${words}`;
+  if (!hasCost(price)) return `${condition} none is found yet; it has at least ${costText(price.bound)}`;
+  const more = BigInt(price.cost) - least, best = price.kind === 'optimum' ? 'the best' : 'the best that is found';
+  return `${condition} ${best} ${more ? `${costsText(more)} more` : `is as good as any: ${costText(price.cost)}`}`;
 };
 
 // Which minutes are best, and which have none, as far as it is known.
 export const summaryOf = (prices, all, { period, isLength, isTurned }) => {
   const best = bestMinutes(prices), none = [...prices.values()].filter(({ kind }) => kind === 'infeasible').map(({ minute }) => minute).sort((one, other) => one - other);
   const left = all.length - prices.size, name = minutes => isLength ? minutes.map(each => minutesText(each)).join(', ') : domainText(minutes, period);
-  if (!left && best.length === all.length && isTurned) return 'Each minute costs the same: nothing else is held, and so all can be turned together. Hold an event of another train first.';
-  return [best.length ? `Best: ${name(best)}, cost ${number(leastCost(prices))}.` : '', none.length ? `No timetable: ${name(none)}.` : '',
+  if (!left && best.length === all.length && isTurned) return 'Each minute is as good as any: nothing else is held, and so all can be turned together. Hold an event of another train first.';
+  return [best.length ? `Best: ${name(best)}, ${costText(leastCost(prices))}.` : '', none.length ? `No timetable: ${name(none)}.` : '',
     left ? `${left} of ${all.length} are not known yet.` : ''].filter(Boolean).join(' ');
 };

@@ -1,6 +1,7 @@
 // What searches of one network have come to: the best timetable, and a bound that no timetable is cheaper than; in a planner's words,
 // and beside the timetable that is shown.
 
+import { costsText, costText, sentence } from '../session/costs.js';
 import { isSure } from '../base/replies.js';
 import { turned } from '../base/turning.js';
 import { isMet } from '../base/viewing.js';
@@ -31,15 +32,15 @@ const gapText = (cost, bound) => {
   return gap > MOST ? '' : `at most ${number(Number(gap) / 10)} % above the best`;
 };
 
-const boundText = ({ bound }) => bound ? `none can cost less than ${number(bound)}` : '';
+const boundText = ({ bound }) => bound ? `none can be below ${number(bound)}` : '';
 
 const bestText = found => {
-  const best = `Cost ${number(found.cost)}, ${gapText(found.cost, found.bound) || 'perhaps not the best'}`, bound = boundText(found);
+  const best = `${sentence(costText(found.cost))}, ${gapText(found.cost, found.bound) || 'perhaps not the best'}`, bound = boundText(found);
   return bound ? `${best} (${bound})` : best;
 };
 
 const TEXTS = {
-  optimum: ({ cost }) => `Cost ${number(cost)}: no timetable costs less.`,
+  optimum: ({ cost }) => `${sentence(costText(cost))}: no timetable is better.`,
   infeasible: () => '✕ No timetable meets everything.',
   stopped: bestText,
   none: found => ['No timetable yet', boundText(found)].filter(Boolean).join('; '),
@@ -51,16 +52,16 @@ export const foundText = found => TEXTS[found.kind](found);
 export const tookText = ({ kind, nodes, seconds, isStopped }) => {
   const took = `${seconds < 10 ? seconds.toFixed(1) : Math.floor(seconds)} s`;
   if (isStopped) return `stopped after ${took}`;
-  return isSure({ kind }) ? `in ${took}` : `after ${number(nodes)} cases, ${took}`;
+  return isSure({ kind }) ? `in ${took}` : `after ${number(nodes)} attempts, ${took}`;
 };
 
 // How far a timetable that is shown is above the best, as far as that is known; where it does not meet everything, what the best costs.
 export const aboveText = (found, view) => {
   const { kind, cost, times, bound } = found, best = `the best${kind === 'optimum' ? '' : ' that is found'}`;
   if (!times) return TEXTS[kind](found);
-  if (!isMet(view)) return `${best} costs ${number(cost)}`;
+  if (!isMet(view)) return `${best} ${costsText(cost)}`;
   const more = BigInt(view.cost) - BigInt(cost), gap = kind === 'optimum' ? '' : gapText(view.cost, bound) || 'how far above the best is not known yet';
-  return [more > 0n ? `${number(more)} above ${best}, which costs ${number(cost)}` : best, gap].filter(Boolean).join('; ');
+  return [more > 0n ? `${number(more)} above ${best}, which ${costsText(cost)}` : best, gap].filter(Boolean).join('; ');
 };
 
 const isShown = ({ cost, times }, view) => cost === view.cost && times.size === view.times.size
@@ -70,12 +71,12 @@ const isShown = ({ cost, times }, view) => cost === view.cost && times.size === 
 // that is no better has none.
 export const comparedText = (found, view, isSearching) => {
   const { cost, bound } = found;
-  if (isShown(found, view)) return { told: 'it is the timetable shown', adopt: '' };
-  if (!isMet(view) || cost < view.cost) return { told: '', adopt: 'Adopt it' };
-  const shown = number(view.cost);
+  if (isShown(found, view)) return { text: 'it is the timetable shown', adopt: '' };
+  if (!isMet(view) || cost < view.cost) return { text: '', adopt: 'Take it over' };
+  const costNow = number(view.cost);
   if (cost > view.cost) {
     const gap = gapText(view.cost, bound);
-    return { told: `✕ dearer than the timetable shown (${gap ? `${shown}, ${gap}` : shown})`, adopt: isSearching ? '' : 'Adopt the dearer one' };
+    return { text: `✕ worse than the timetable shown (${gap ? `${costNow}, ${gap}` : costNow})`, adopt: isSearching ? '' : 'Take the worse one over' };
   }
-  return { told: `as dear as the timetable shown (${shown})`, adopt: isSearching ? '' : 'Adopt it all the same' };
+  return { text: `as good as the timetable shown (${costNow})`, adopt: isSearching ? '' : 'Take it over all the same' };
 };

@@ -1,7 +1,7 @@
 // The timetables that were found, of networks by their marks: the cheapest ones of each, and of the last networks alone.
 
+import { display } from '../session/display.js';
 import { markNow } from '../session/session.js';
-import { shown } from '../session/shown.js';
 import { isMet } from '../base/viewing.js';
 
 const MOST = 8, MOST_NETWORKS = 30, known = new Map(), NONE = [];
@@ -20,7 +20,7 @@ export const noteFound = (mark, { kind, times, cost }) => {
 
 // The cheapest timetable that is known to meet everything: one that was found, or the one that is shown; null where none is.
 export const bestKnown = () => {
-  const { times, cost, isTried } = shown.view, all = foundsOf(markNow()), [best] = all;
-  if (!isTried && isMet(shown.view) && !(best && best.cost <= cost)) return { kind: 'stopped', times, cost, isShown: true };
+  const { times, cost, isTried } = display.view, all = foundsOf(markNow()), [best] = all;
+  if (!isTried && isMet(display.view) && !(best && best.cost <= cost)) return { kind: 'stopped', times, cost, isShown: true };
   return best ? { ...best, kind: all.some(each => each.kind === 'optimum' && each.cost === best.cost) ? 'optimum' : 'stopped' } : null;
 };

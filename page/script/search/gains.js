@@ -2,18 +2,19 @@
 // allows, beside the best one as it is. Each is a search; they are listed as they come, and one is taken over by a click.
 
 import { askFor } from './asking.js';
+import { costsText, costText } from '../session/costs.js';
+import { display } from '../session/display.js';
 import { edit, timeEdits } from '../base/edits.js';
 import { element, elided, find, say, tableOf } from '../base/elements.js';
 import { bestKnown } from './founds.js';
 import { activityName, kindOf, spanMinutes, spanText } from '../session/names.js';
 import { isSure } from '../base/replies.js';
 import { doStep, markNow, redraw } from '../session/session.js';
-import { shown } from '../session/shown.js';
 import { showActivity } from '../forms/spans.js';
 import { isTab } from '../session/tabs.js';
 
 const USUALLY_KEPT = ['run', 'dwell', 'headway'], MOST_ASKED = 2000, MOST_SHOWN = 200;
-const WAYS = {
+const MODES = {
   more: { title: 'one minute more', change: ({ lower, upper }) => ({ lower, upper: upper + 1 }), paid: () => 0n },
   // The least ones are what slack counts from: a minute less of them would cost more in the same timetable.
   less: { title: 'one less of the least minutes', change: ({ lower, upper }) => ({ lower: lower - 1, upper }), paid: ({ weight }) => BigInt(weight) },
@@ -41,21 +42,21 @@ const build = view => {
 const costNow = ({ tensions }, { number, weight }) => tensions && tensions.has(number) ? BigInt(tensions.get(number).slack) * BigInt(weight) : 0n;
 
 // The questions, those of the dearest activities first. What rules nothing out is not asked for.
-const questionsOf = (view, way) => {
+const questionsOf = (view, mode) => {
   const { activities, period } = view.network, kinds = new Set(boxes().filter(box => box.checked).map(box => box.value));
   const open = [...activities.values()].filter(each => kinds.has(kindOf(each.number)) && each.upper - each.lower < period - 1);
   open.sort((one, other) => Number(costNow(view, other) - costNow(view, one)) || one.number - other.number);
-  return open.slice(0, MOST_ASKED).map(each => ({ each, after: WAYS[way].change(each) }))
-    .map(({ each, after }) => ({ number: each.number, after, paid: Number(WAYS[way].paid(each)), line: edit.span(each.number, after.lower, after.upper).line, back: edit.span(each.number, each.lower, each.upper).line }));
+  return open.slice(0, MOST_ASKED).map(each => ({ each, after: MODES[mode].change(each) }))
+    .map(({ each, after }) => ({ number: each.number, after, paid: Number(MODES[mode].paid(each)), line: edit.span(each.number, after.lower, after.upper).line, back: edit.span(each.number, each.lower, each.upper).line }));
 };
 
 const look = event => {
   event.preventDefault();
-  const way = find('gain-way').value, questions = questionsOf(shown.view, way);
-  if (!questions.length) return say('No activity of these kinds has a span that rules anything out.', true);
+  const mode = find('gain-way').value, questions = questionsOf(display.view, mode);
+  if (!questions.length) return say('No activity of these kinds has least or most minutes that rule anything out.', true);
   const best = bestKnown();
-  asked = { mark: markNow(), way, count: questions.length, before: best, came: [], isEnded: false };
-  askFor({ kind: 'gains', questions, best, events: shown.view.network.events }, { tell: ({ gain }) => showGain(gain), end: endGains });
+  asked = { mark: markNow(), mode, count: questions.length, before: best, came: [], isEnded: false };
+  askFor({ kind: 'gains', questions, best, events: display.view.network.events }, { tell: ({ gain }) => showGain(gain), end: endGains });
   drawn = null;
   return redraw();
 };
@@ -73,7 +74,7 @@ const isOfNow = () => asked && asked.mark === markNow();
 // By how much a timetable is cheaper than the best one as it is; null where one of both is not there.
 const savedBy = (view, { number, found }) => {
   if (!found.times || !asked.before.times) return null;
-  return BigInt(asked.before.cost) - (BigInt(found.cost) - WAYS[asked.way].paid(view.network.activities.get(number)));
+  return BigInt(asked.before.cost) - (BigInt(found.cost) - MODES[asked.mode].paid(view.network.activities.get(number)));
 };
 
 // What helps, the most first: where there is no timetable as it is, each that has one.
@@ -84,12 +85,12 @@ const helpful = view => {
 };
 
 const take = ({ number, line, found }) => {
-  const activity = shown.view.network.activities.get(number), title = `${activityName(activity)}: ${WAYS[asked.way].title}, and the best timetable with it`;
+  const activity = display.view.network.activities.get(number), title = `${activityName(activity)}: ${MODES[asked.mode].title}, and the best timetable with it`;
   doStep([line, ...timeEdits(found.times)], { title });
 };
 
 const savedText = ({ saved, found }) => {
-  if (saved === null) return `then there is a timetable, of cost ${found.cost.toLocaleString('en')}`;
+  if (saved === null) return `then there is a timetable, of ${costText(found.cost)}`;
   const isMore = !isSure(found), sure = isMore ? 'or more' : '';
   return [saved.toLocaleString('en'), isSure(asked.before) ? sure : isMore ? 'perhaps' : 'or less'].filter(Boolean).join(', ');
 };
@@ -103,13 +104,13 @@ const row = (view, gain) => {
 };
 
 const beforeText = ({ kind, cost, isShown }) => ({
-  optimum: () => `The best timetable as it is costs ${cost.toLocaleString('en')}.`, stopped: () => `As it is, ${isShown ? 'the timetable shown' : 'a timetable was found that'} costs ${cost.toLocaleString('en')}; perhaps not the best.`,
+  optimum: () => `The best timetable as it is ${costsText(cost)}.`, stopped: () => `As it is, ${isShown ? 'the timetable shown' : 'a timetable was found that'} ${costsText(cost)}; perhaps not the best.`,
   infeasible: () => 'As it is, no timetable meets everything.', none: () => 'As it is, no timetable was found.',
 })[kind]();
 
 const WORDS = 'Which activity should be given a minute? Each of the kinds that are ticked is asked, and what saves most comes first.';
 
-const told = view => {
+const contentOf = view => {
   if (!isOfNow()) return [element('p', { class: 'quiet' }, WORDS)];
   const { before, came, count, isEnded } = asked;
   if (!before) return [element('p', {}, 'The best timetable as it is is looked for …')];
@@ -129,7 +130,7 @@ const update = view => {
   drawn = view;
   const holder = find('gains'), /** @type {any} */ focused = document.activeElement.closest('#gains [data-gain]');
   const at = focused ? [...focused.querySelectorAll('button')].indexOf(document.activeElement) : 0;
-  holder.replaceChildren(...told(view));
+  holder.replaceChildren(...contentOf(view));
   if (focused) holder.querySelector(`[data-gain="${focused.dataset.gain}"]`)?.querySelectorAll('button')[at].focus();
 };
 
@@ -139,10 +140,10 @@ export const gainsPanel = { build, update };
 const endGains = () => {
   asked.isEnded = true;
   drawn = null;
-  if (shown.view) update(shown.view);
+  if (display.view) update(display.view);
 };
 
 export const startGains = () => {
-  find('gain-way').replaceChildren(...Object.entries(WAYS).map(([value, { title }]) => element('option', { value }, title)));
+  find('gain-way').replaceChildren(...Object.entries(MODES).map(([value, { title }]) => element('option', { value }, title)));
   find('gains-form').addEventListener('submit', look);
 };

@@ -21,7 +21,7 @@ const tellBest = async (session, network, { edits, held, events }, tell, how) =>
 
 export const tellRest = (session, network, asked, tell, how) => {
   const edits = editsOf(asked.edits), { held } = asked, { network: after } = follow({ network, times: new Map() }, edits), events = held.map(([event]) => event);
-  if (asked.way === 'near') return tellNearest(after, { ...asked, held: events, most: null }, tell, how);
+  if (asked.mode === 'near') return tellNearest(after, { ...asked, held: events, most: null }, tell, how);
   const event = heldElsewhere(after, new Map(held), events);
   return event === undefined ? tellBest(session, network, { ...asked, edits }, tell, how) : tell({ near: { kind: 'outside', event }, isDone: true });
 };

@@ -1,9 +1,9 @@
 // What minutes cost, as far as that is known, of the network that is shown. A Worker of its own works it out, beside whatever else is
 // done, until the next step.
 
+import { display } from '../session/display.js';
 import { say } from '../base/elements.js';
 import { markNow, present } from '../session/session.js';
-import { shown } from '../session/shown.js';
 import { soleWorker } from '../base/workers.js';
 
 // Of networks by their marks, of each question by its key the prices by minute; of the last networks alone, with so many times.
@@ -21,14 +21,14 @@ export const pricesOf = question => (known.get(markNow()) || NONE).get(keyOf(que
 
 // The minutes that have a price, nearest to the present one first.
 export const pricedMinutes = ({ of, number, lower, upper }) => {
-  const { network: { period }, times, tensions } = shown.view, isEvent = of === 'event';
+  const { network: { period }, times, tensions } = display.view, isEvent = of === 'event';
   const least = isEvent ? 0 : lower, count = isEvent ? period : Math.min(upper - lower + 1, period);
   const now = isEvent ? times.get(number) : tensions?.get(number)?.tension, start = Math.min(Math.max(now || 0, least), least + count - 1);
   const far = minute => isEvent ? Math.min(Math.abs(minute - start), period - Math.abs(minute - start)) : Math.abs(minute - start);
   return [...Array(count).keys()].map(each => least + each).sort((one, other) => far(one) - far(other) || one - other);
 };
 
-const timesKnown = () => [...known.values()].flatMap(of => [...of.values()]).reduce((sum, { size }) => sum + size, 0) * shown.view.network.events.length;
+const timesKnown = () => [...known.values()].flatMap(of => [...of.values()]).reduce((sum, { size }) => sum + size, 0) * display.view.network.events.length;
 
 const keep = (mark, question, prices) => {
   const ofNetwork = known.get(mark) || new Map();
@@ -65,7 +65,7 @@ const askNext = () => {
   if (!wanted.length) return worker.end();
   if (!question) return worker.leave();
   if (asked && asked.mark === mark && keyOf(asked.question) === keyOf(question)) return null;
-  const next = { kind: 'prices', mark, ...present(), question, minutes: leftOf(question), events: shown.view.network.events };
+  const next = { kind: 'prices', mark, ...present(), question, minutes: leftOf(question), events: display.view.network.events };
   return worker.ask(next, answered(next, new Map(pricesOf(question))));
 };
 
@@ -73,7 +73,7 @@ const askNext = () => {
 // activity, with its span and weight. While something is dragged nothing else is asked.
 export const wantPrices = questions => {
   wanted = questions;
-  if (!shown.view.isTried) askNext();
+  if (!display.view.isTried) askNext();
 };
 
 // Whether more comes.

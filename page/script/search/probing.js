@@ -3,7 +3,7 @@
 // as a whole, so this takes no timetable away from which another could not be turned.
 
 import { windowEdit } from '../base/edits.js';
-import { partsOf, rowsText } from '../base/network.js';
+import { componentsOf, rowsText } from '../base/network.js';
 import { readFound } from '../base/replies.js';
 import { run } from '../base/running.js';
 
@@ -42,10 +42,10 @@ const baseOf = ({ network, preferred }, members) => {
   const degrees = new Map();
   for (const row of rows) for (const event of [row.first, row.last]) degrees.set(event, (degrees.get(event) || 0) + 1);
   const windows = new Map(kept.filter(({ of, number }) => of === 'event' && degrees.has(number)).map(({ number, bounds }) => [number, bounds]));
-  for (const part of partsOf(degrees.keys(), rows)) {
-    if (part.some(event => windows.has(event))) continue;
-    const [most] = part.sort((one, other) => degrees.get(other) - degrees.get(one) || one - other);
-    windows.set(part.includes(preferred) ? preferred : most, { first: 0, length: 1 });
+  for (const component of componentsOf(degrees.keys(), rows)) {
+    if (component.some(event => windows.has(event))) continue;
+    const [most] = component.sort((one, other) => degrees.get(other) - degrees.get(one) || one - other);
+    windows.set(component.includes(preferred) ? preferred : most, { first: 0, length: 1 });
   }
   return {
     period, fixed: '', times: '', activities: rowsText(rows.map(row => [row.number, row.first, row.last, row.lower, row.upper, 0])),

@@ -2,13 +2,14 @@
 // nearest one, with what was moved held, which mends what is violated.
 
 import { askedNow, askFor } from './asking.js';
+import { costMoreText, costName, costText } from '../session/costs.js';
+import { display } from '../session/display.js';
 import { element, find, say, setText } from '../base/elements.js';
 import { isField } from '../forms/fields.js';
 import { foundsOf, noteFound } from './founds.js';
 import { drawOld, editsToTimes, movesText } from '../draw/moves.js';
 import { eventName, minutesText } from '../session/names.js';
 import { doStep, eventsMoved, markNow, preview, refresh, timesNow } from '../session/session.js';
-import { shown } from '../session/shown.js';
 import { isTab, showTab } from '../session/tabs.js';
 import { askWhy } from './telling.js';
 import { stayingEvents } from '../session/trains.js';
@@ -19,22 +20,21 @@ import { countViolated, isMet } from '../base/viewing.js';
 // none, null where there is no such; and what was listed last.
 let proposed = null, refusal = null, found = null, offered = [];
 
-const costText = before => {
-  if (shown.view.cost === null) return 'cost not known';
-  const more = BigInt(shown.view.cost) - BigInt(before.cost ?? shown.view.cost);
-  return more ? `cost ${(more < 0n ? -more : more).toLocaleString('en')} ${more < 0n ? 'less' : 'more'}` : 'cost as before';
+const moreText = before => {
+  if (display.view.cost === null) return `${costName()} not known`;
+  return costMoreText(BigInt(display.view.cost) - BigInt(before.cost ?? display.view.cost));
 };
 
 // Shows what edits would make above what is shown, which stays what it is; `told` says what they move, and `step` what takes them.
-const propose = (lines, told, step, isToMeet = true) => {
-  const before = shown.view.before || shown.view;
+const propose = (lines, words, step, isToMeet = true) => {
+  const before = display.view.before || display.view;
   refusal = null;
   preview(lines, '', before);
-  if (!shown.view.isTried || (isToMeet && !isMet(shown.view))) {
+  if (!display.view.isTried || (isToMeet && !isMet(display.view))) {
     refresh();
     return say('What was found does not meet everything: this is a fault of the page.', true);
   }
-  proposed = { lines, view: shown.view, told: [told, costText(before)].join('; '), step };
+  proposed = { lines, view: display.view, words: [words, moreText(before)].join('; '), step };
   return tell();
 };
 
@@ -49,17 +49,17 @@ export const see = (...of) => {
 export const seeTimes = (times, title) => see(editsToTimes(nearer(times)), movesText(nearer(times)), { title });
 
 // Turned to agree with the one that is shown.
-const nearer = times => turned(times, shown.view.before || shown.view);
+const nearer = times => turned(times, display.view.before || display.view);
 
 const offer = ({ times, cost }) => {
-  const name = cost.toLocaleString('en'), isOther = editsToTimes(nearer(times)).length > 0;
-  const button = isOther && element('button', { type: 'button', onclick: () => seeTimes(times, `the timetable of cost ${name} is taken`) }, 'See it');
+  const name = cost.toLocaleString('en'), title = `the timetable of ${costText(cost)} is taken over`, isOther = editsToTimes(nearer(times)).length > 0;
+  const button = isOther && element('button', { type: 'button', onclick: () => seeTimes(times, title) }, 'See it');
   return element('li', {}, element('b', {}, name), isOther ? ` ${movesText(nearer(times))} ` : ' it is shown', button);
 };
 
 // The timetables that were found for the network that is shown. While something is tried, what was listed beside the present one stays.
 export const tellOffers = () => {
-  const { view } = shown, { open } = find('offers');
+  const { view } = display, { open } = find('offers');
   if (!view || view.isTried) return;
   const all = foundsOf(markNow()), seen = [all, open, view];
   if (seen.every((each, place) => each === offered[place])) return;
@@ -90,7 +90,7 @@ const end = (held, most, focused) => {
   if (!found) return;
   if (found.times) proposeNearest(found, held);
   else {
-    refusal = { view: shown.view, told: refusalText(found, most), held: found.kind === 'infeasible' ? [...held].map(event => [event, timesNow().get(event)]) : null };
+    refusal = { view: display.view, words: refusalText(found, most), held: found.kind === 'infeasible' ? [...held].map(event => [event, timesNow().get(event)]) : null };
     tell();
   }
   if (isHere) find(proposed ? 'take-proposed' : refusal && refusal.held ? 'why-not' : 'mend').focus();
@@ -99,7 +99,7 @@ const end = (held, most, focused) => {
 // Looks for the nearest timetable, with what was moved held.
 export const mend = () => {
   if (askedNow()) return null;
-  if (!countViolated(shown.view)) return say('Nothing is violated, so there is nothing to mend.', true);
+  if (!countViolated(display.view)) return say('Nothing is violated, so there is nothing to mend.', true);
   const held = new Set([...eventsMoved(), ...stayingEvents()]), most = mostMoved(), focused = document.activeElement;
   [proposed, refusal, found] = [null, null, null];
   return askFor({ kind: 'near', times: [...timesNow()], held: [...held], most }, {
@@ -108,10 +108,10 @@ export const mend = () => {
 };
 
 const tell = () => {
-  const { view } = shown, isProposed = Boolean(proposed) && proposed.view === view, isRefused = Boolean(refusal) && refusal.view === view;
+  const { view } = display, isProposed = Boolean(proposed) && proposed.view === view, isRefused = Boolean(refusal) && refusal.view === view;
   find('mending').hidden = isProposed || Boolean(view.isTried) || !countViolated(view);
   find('proposed').hidden = !isProposed && !isRefused;
-  setText(find('proposed-told'), isProposed ? proposed.told : isRefused ? refusal.told : '');
+  setText(find('proposed-told'), isProposed ? proposed.words : isRefused ? refusal.words : '');
   for (const name of ['take-proposed', 'leave-proposed']) find(name).hidden = !isProposed;
   find('why-not').hidden = !isRefused || !refusal.held;
   tellOffers();
@@ -121,8 +121,8 @@ const tell = () => {
 export const proposingPanel = { update: tell };
 
 const take = () => {
-  const { lines, told, step } = proposed;
-  if (doStep(lines, { ...step, isFound: true })) say(`${step.title}: ${told}`);
+  const { lines, words, step } = proposed;
+  if (doStep(lines, { ...step, isFound: true })) say(`${step.title}: ${words}`);
   find('optimum').focus();
 };
 

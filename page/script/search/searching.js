@@ -1,6 +1,8 @@
 // Searches for the best timetable. What they have come to is told as they go, adopted by a click, while one runs too, and gone on from.
 
 import { askedNow, askFor, hearAsked, leaveAsked, stopAsking } from './asking.js';
+import { costText } from '../session/costs.js';
+import { display } from '../session/display.js';
 import { timeEdits } from '../base/edits.js';
 import { find, lead, say, sayMore, setText } from '../base/elements.js';
 import { betterFound, comparedText, foundText, tookText } from './found.js';
@@ -8,11 +10,10 @@ import { bestKnown, noteFound } from './founds.js';
 import { seeTimes, tellOffers } from './proposing.js';
 import { isSure } from '../base/replies.js';
 import { doStep, markNow } from '../session/session.js';
-import { shown } from '../session/shown.js';
 import { turned } from '../base/turning.js';
 
 // The most that a search can be asked for.
-export const EVERY_CASE = 1e12;
+export const EVERY_ATTEMPT = 1e12;
 
 // What searches of one network, by its mark, have come to; whether it was offered; and the nodes and seconds before the search that runs.
 let found = null, wasOffered = false, before = { nodes: 0, seconds: 0 };
@@ -25,7 +26,7 @@ const search = most => {
   if (!isOfNow()) found = { kind: 'none', nodes: 0, seconds: 0, mark: markNow() };
   before = isSure(found) ? { nodes: 0, seconds: 0 } : { nodes: found.nodes, seconds: found.seconds };
   found = { ...found, isStopped: true };
-  const question = { kind: 'search', most, best: bestKnown(), events: shown.view.network.events };
+  const question = { kind: 'search', most, best: bestKnown(), events: display.view.network.events };
   askFor(question, { tell: hear, end });
 };
 
@@ -84,10 +85,10 @@ const tell = () => {
   setText(find('clock'), clockText(asked, isSearching));
   setText(find('found'), isTold ? foundText(found) : asked ? asked.busy : '');
   find('found').classList.toggle('alarm', isTold && found.kind === 'infeasible');
-  const compared = isOffered ? comparedText(found, shown.view, isSearching) : { told: '', adopt: '' };
-  setText(find('compared'), compared.told);
+  const compared = isOffered ? comparedText(found, display.view, isSearching) : { text: '', adopt: '' };
+  setText(find('compared'), compared.text);
   find('adopt').hidden = !compared.adopt;
-  find('see').hidden = !compared.adopt || !shown.view.times.size;
+  find('see').hidden = !compared.adopt || !display.view.times.size;
   if (compared.adopt) setText(find('adopt'), compared.adopt);
   tellButtons(asked);
   tellOffers();
@@ -97,7 +98,7 @@ const tell = () => {
 // Times are set by lines of their own, so that nothing is searched again when these lines are given once more.
 const adopt = () => {
   const { cost, kind } = found;
-  if (doStep(timeEdits(turned(found.times, shown.view)), { isFound: true })) say(`adopted: ${kind === 'optimum' ? 'the optimum' : 'the best that was found'}, cost ${cost.toLocaleString('en')}`);
+  if (doStep(timeEdits(turned(found.times, display.view)), { isFound: true })) say(`taken over: ${kind === 'optimum' ? 'the optimum' : 'the best that was found'}, ${costText(cost)}`);
   lead(find(askedNow() ? 'stop' : 'optimum'));
 };
 
@@ -106,7 +107,7 @@ export const searchingPanel = {
   begin,
   update: () => {
     const isLeft = wasOffered && !isOfNow(), left = leaveAsked();
-    const kept = isLeft ? `the timetable of cost ${found.cost.toLocaleString('en')} that was found before it is offered again after Undo` : '';
+    const kept = isLeft ? `the timetable of ${costText(found.cost)} that was found before it is offered again after Undo` : '';
     tell();
     if (left || kept) sayMore([left, kept].filter(Boolean).join('; '));
   },
@@ -114,11 +115,11 @@ export const searchingPanel = {
 
 export const startSearching = () => {
   hearAsked(tell);
-  find('optimum').addEventListener('click', () => search(EVERY_CASE));
+  find('optimum').addEventListener('click', () => search(EVERY_ATTEMPT));
   find('try-form').addEventListener('submit', event => {
     event.preventDefault();
     search(Number(find('nodes').value));
   });
   find('adopt').addEventListener('click', adopt);
-  find('see').addEventListener('click', () => seeTimes(found.times, 'adopted'));
+  find('see').addEventListener('click', () => seeTimes(found.times, 'taken over'));
 };

@@ -2,6 +2,7 @@
 
 import { askFor } from './asking.js';
 import { conflictsOf } from '../session/conflicts.js';
+import { display } from '../session/display.js';
 import { edit, windowEdit } from '../base/edits.js';
 import { element, find, lead } from '../base/elements.js';
 import { showRow } from '../forms/events.js';
@@ -9,7 +10,6 @@ import { bestKnown } from './founds.js';
 import { activityName, eventName, minutesText, spanMinutes, spanText, windowText } from '../session/names.js';
 import { memberKey } from './probing.js';
 import { doStep, markNow, redraw } from '../session/session.js';
-import { shown } from '../session/shown.js';
 import { isTab, showTab } from '../session/tabs.js';
 
 let answer = null;
@@ -21,19 +21,19 @@ const WHOLE = {
   infeasible: 'With each of these another conflict is left:',
 };
 
-const NOTHING = 'Where no timetable meets everything, “Why?” finds a least set of spans and windows that cannot be met together, and '
+const NOTHING = 'Where no timetable meets everything, “Why?” finds the fewest activities and held events that cannot be met together, and '
   + 'the least changes that mend it.';
 
-const showWhy = told => {
-  answer = { ...told, mark: markNow() };
+const showWhy = found => {
+  answer = { ...found, mark: markNow() };
   redraw();
 };
 
 // The members of the kinds that are not to be changed; `fixed` are fixed times and windows.
 const keptMembers = () => {
   const kinds = new Set(find('kept-kinds').value.split(',').map(kind => kind.trim()).filter(Boolean));
-  const { activities, windows } = shown.view.network;
-  const spans = [...activities.keys()].filter(number => kinds.has(shown.labels.kinds.get(number))).map(number => ({ of: 'activity', number }));
+  const { activities, windows } = display.view.network;
+  const spans = [...activities.keys()].filter(number => kinds.has(display.labels.kinds.get(number))).map(number => ({ of: 'activity', number }));
   const held = kinds.has('fixed') ? [...windows.keys()].map(number => ({ of: 'event', number })) : [];
   return [...spans, ...held].map(memberKey);
 };
@@ -64,8 +64,8 @@ const notesOf = (isBackward, isKept) => {
 
 const shapeText = ({ shape }) => {
   if (!shape) return '';
-  const [below, above] = shape.wanted, told = [below, above].filter(each => each[0] >= 0 || each === above);
-  const wanted = told.map(each => spanText(...each)).join(' or ');
+  const [below, above] = shape.wanted, sums = [below, above].filter(each => each[0] >= 0 || each === above);
+  const wanted = sums.map(each => spanText(...each)).join(' or ');
   const taken = spanMinutes(shape.least, shape.most);
   return shape.isCircle ? `Once round this circle they take ${taken}, and have to take ${wanted}: a whole number of periods.`
     : `On this way from one held event to the other they take ${taken}, and have to take ${wanted}.`;
@@ -74,7 +74,7 @@ const shapeText = ({ shape }) => {
 const claimText = ({ members, undecided, nodes }, network) => {
   if (!undecided.length) return members.length > 1 ? 'Without any one of them, the others have a timetable.' : '';
   const names = undecided.map(member => nameOf(member, network)).join(', ');
-  return `Searches of ${nodes.toLocaleString('en')} cases see no conflict in the others without one of them; undecided is that without ${names}.`;
+  return `Searches of ${nodes.toLocaleString('en')} attempts see no conflict in the others without one of them; undecided is that without ${names}.`;
 };
 
 const editOf = ({ member, after }) => member.of === 'event' ? windowEdit(member.number, after.first, after.length)
@@ -91,31 +91,31 @@ const mendRow = (mend, network) => element('tr', {},
   element('td', {}, changeOf(mend, network.period)));
 
 const mendsOf = ({ mends }, network) => {
-  if (!mends.length) return [element('p', {}, 'No member that may be changed is seen to mend it alone.')];
-  return [element('h3', {}, 'The least that mends it, by one member alone'), ...Object.keys(WHOLE).flatMap(whole => {
+  if (!mends.length) return [element('p', {}, 'Nothing that may be changed is seen to mend it alone.')];
+  return [element('h3', {}, 'The least that mends it, by one change alone'), ...Object.keys(WHOLE).flatMap(whole => {
     const listed = mends.filter(mend => mend.whole === whole);
     const rows = listed.map(mend => mendRow(mend, network));
     return rows.length ? [element('p', {}, WHOLE[whole]), element('table', { class: 'rows' }, ...rows)] : [];
   })];
 };
 
-const conflict = (told, network) => [
-  element('h3', {}, told.members.length > 1 ? `These ${told.members.length} cannot be met together` : 'This cannot be met'),
-  element('table', { class: 'rows' }, ...ordered(told).map(member => memberRow(member, told, network))),
-  ...[shapeText(told), claimText(told, network)].filter(Boolean).map(text => element('p', {}, text)), ...mendsOf(told, network),
+const conflict = (found, network) => [
+  element('h3', {}, found.members.length > 1 ? `These ${found.members.length} cannot be met together` : 'This cannot be met'),
+  element('table', { class: 'rows' }, ...ordered(found).map(member => memberRow(member, found, network))),
+  ...[shapeText(found), claimText(found, network)].filter(Boolean).map(text => element('p', {}, text)), ...mendsOf(found, network),
 ];
 
-const told = network => {
+const contentOf = network => {
   if (answer.kind === 'possible') return [element('p', {}, `${answer.isShown ? 'The timetable shown' : 'A timetable'} meets everything, so there is no conflict.`)];
   if (answer.kind === 'conflict') return conflict(answer, network);
   const nodes = answer.nodes.toLocaleString('en');
-  return [element('p', {}, `Undecided: a search of ${nodes} cases came to no timetable, and single activities show no conflict.`)];
+  return [element('p', {}, `Undecided: a search of ${nodes} attempts came to no timetable, and single activities show no conflict.`)];
 };
 
 const update = view => {
   if (answer && answer.mark !== markNow()) answer = null;
   if (!isTab('why')) return;
-  find('reasons').replaceChildren(...(answer ? told(view.network) : [element('p', { class: 'quiet' }, NOTHING)]));
+  find('reasons').replaceChildren(...(answer ? contentOf(view.network) : [element('p', { class: 'quiet' }, NOTHING)]));
 };
 
 export const tellingPanel = { update };
@@ -129,7 +129,7 @@ export const askWhy = held => {
   const known = held.length ? null : bestKnown();
   if (known) return showWhy({ kind: 'possible', isShown: known.isShown });
   const members = [...keptMembers(), ...held.map(([number]) => memberKey({ of: 'event', number }))];
-  const asked = { kind: 'why', members, canLower: find('can-lower').checked, held, violated: eventsViolated(shown.view) };
+  const asked = { kind: 'why', members, canLower: find('can-lower').checked, held, violated: eventsViolated(display.view) };
   return askFor(asked, { tell: ({ why }) => showWhy(why), end: () => lead(document.querySelector('#reasons .mend')) });
 };
 

@@ -3,8 +3,10 @@
 
 import { besideConnections, besideDiagram, besideTable } from '../draw/beside.js';
 import { editsBetween } from '../base/between.js';
+import { costName } from '../session/costs.js';
 import { diagramOf } from '../draw/diagram.js';
 import { costsBeside, differences } from '../session/differing.js';
+import { display, within } from '../session/display.js';
 import { element, elided, find, rowOf, say, tableOf } from '../base/elements.js';
 import { showRow } from '../forms/events.js';
 import { isField } from '../forms/fields.js';
@@ -12,7 +14,6 @@ import { movesText } from '../draw/moves.js';
 import { minutesText } from '../session/names.js';
 import { see } from './proposing.js';
 import { doStep, redraw, session, timesNow } from '../session/session.js';
-import { shown, within } from '../session/shown.js';
 import { isTab, showTab } from '../session/tabs.js';
 import { countViolated } from '../base/viewing.js';
 
@@ -21,8 +22,8 @@ const kept = new Map();
 let drawn = [], line = null;
 
 const keep = (name, isByKey = false) => {
-  if (!shown.view) return;
-  kept.set(name, { view: shown.view, title: session.opened.title });
+  if (!display.view) return;
+  kept.set(name, { view: display.view, title: session.opened.title });
   say(kept.size < 2 ? `Kept as ${name}. Change something, and keep that as ${NAMES.find(each => each !== name)}.` : `Kept as ${name}.`);
   if (kept.size < 2) return redraw();
   showTab('compare');
@@ -32,7 +33,7 @@ const keep = (name, isByKey = false) => {
 // The two that are told; one that is not kept is what is shown, and the second then.
 const sides = () => {
   const found = NAMES.filter(name => kept.has(name)).map(name => ({ name, ...kept.get(name) }));
-  return found.length === 1 ? [...found, { name: 'now', view: shown.view, title: session.opened.title }] : found;
+  return found.length === 1 ? [...found, { name: 'now', view: display.view, title: session.opened.title }] : found;
 };
 
 const swap = () => {
@@ -51,7 +52,7 @@ const forget = name => {
 
 // Takes one over as one step, which undo takes back.
 const take = name => {
-  const { view } = kept.get(name), [wanted, now] = [view, shown.view].map(({ network }) => minutesText(network.period));
+  const { view } = kept.get(name), [wanted, now] = [view, display.view].map(({ network }) => minutesText(network.period));
   if (!isOfPeriod(view)) return say(`${name} repeats after ${wanted}, and what is open after ${now}: open its files.`, true);
   return doStep(linesTo(view), { title: `${name} is taken over`, labels: view.labels, isFound: true });
 };
@@ -59,14 +60,14 @@ const take = name => {
 const button = (text, onclick, more = {}) => element('button', { type: 'button', onclick, ...more }, text);
 
 // The lines by which what is shown becomes another view of the same period.
-const linesTo = view => editsBetween({ network: shown.view.network, times: timesNow() }, view);
+const linesTo = view => editsBetween({ network: display.view.network, times: timesNow() }, view);
 
-const isOfPeriod = view => view.network.period === shown.view.network.period;
+const isOfPeriod = view => view.network.period === display.view.network.period;
 
-const isShown = view => view === shown.view || (isOfPeriod(view) && view.labels === shown.labels && !linesTo(view).length);
+const isShown = view => view === display.view || (isOfPeriod(view) && view.labels === display.labels && !linesTo(view).length);
 
 // What has the same events, activities and names is drawn above what is shown before it is taken over.
-const isSeen = view => view.network.shape === shown.view.network.shape && view.labels === shown.labels && !isShown(view);
+const isSeen = view => view.network.shape === display.view.network.shape && view.labels === display.labels && !isShown(view);
 
 const seeVariant = name => {
   const { view } = kept.get(name);
@@ -91,15 +92,15 @@ const violatedRow = both => {
 
 // Cost in all and by kind, and what is violated.
 const figures = (both, costs) => {
-  const rows = (costs || []).map(([kind, one, other]) =>
-    row(kind === 'in all' ? 'cost in all' : `cost of ${kind}`, one.toLocaleString('en'), other.toLocaleString('en'), signed(other - one), kind === 'in all' ? 'sum' : null));
-  const unknown = costs ? [] : [row('cost in all', ...both.map(({ view }) => numbered(view.cost)), '', 'sum')];
+  const inAll = `${costName()} in all`, rows = (costs || []).map(([kind, one, other]) =>
+    row(kind === 'in all' ? inAll : `${costName()} of ${kind}`, one.toLocaleString('en'), other.toLocaleString('en'), signed(other - one), kind === 'in all' ? 'sum' : null));
+  const unknown = costs ? [] : [row(inAll, ...both.map(({ view }) => numbered(view.cost)), '', 'sum')];
   const sum = rows.pop(), isTitled = both[0].title !== both[1].title, heads = both.map(side => headOf(side, isTitled));
   return tableOf('times beside', ['', ...heads, 'change'], [violatedRow(both), sum, ...unknown, ...rows].filter(Boolean));
 };
 
 // What is told of an event leads to it, where it is in the network that is shown.
-const item = ({ event, text }) => element('li', {}, shown.view.domains.has(event)
+const item = ({ event, text }) => element('li', {}, display.view.domains.has(event)
   ? element('button', { class: 'link', type: 'button', onclick: () => showRow(event) }, text) : text);
 
 const listOf = (title, changes) => [element('h4', {}, title), changes.length
@@ -108,7 +109,7 @@ elided(changes.length, MOST_TOLD, 'changes')].filter(Boolean);
 
 const nameOfLine = both => {
   const names = [...new Set(both.flatMap(({ view }) => view.lines.map(each => each.name)))];
-  return { names, name: names.find(each => each === line) || names.find(each => each === shown.chosenLine) || names[0] };
+  return { names, name: names.find(each => each === line) || names.find(each => each === display.chosenLine) || names[0] };
 };
 
 const lineChoice = ({ names, name }) => {
@@ -174,7 +175,7 @@ const hands = () => {
 
 const update = () => {
   if (!isTab('compare')) return;
-  const both = sides(), seen = [...both.flatMap(({ name, view }) => [name, view]), shown.view, kept.size ? shown.chosenLine : null];
+  const both = sides(), seen = [...both.flatMap(({ name, view }) => [name, view]), display.view, kept.size ? display.chosenLine : null];
   if (drawn.length === seen.length && seen.every((each, place) => each === drawn[place])) return;
   drawn = seen;
   hands();
@@ -190,7 +191,7 @@ export const startVariants = () => {
   for (const name of NAMES) find(`keep-${name}`).addEventListener('click', () => keep(name));
   find('compared-told').addEventListener('click', event => {
     const at = event.target.closest('[data-event]');
-    if (at && shown.view.domains.has(Number(at.dataset.event))) showRow(Number(at.dataset.event));
+    if (at && display.view.domains.has(Number(at.dataset.event))) showRow(Number(at.dataset.event));
   });
   window.addEventListener('keydown', event => {
     const name = event.key.toUpperCase();

@@ -15,8 +15,8 @@ const conflictOf = (view, number) => {
   const kind = kindOf(number), off = had < lower ? lower - had : had - upper;
   const missed = `${lengthText(off)} too ${had < lower ? 'few' : 'many'}`;
   const short = `${minus(lengthText(had))} not ${spanText(lower, upper).replace(' to ', '–')}`;
-  const told = `takes ${minus(minutesText(had))}, may take ${spanText(lower, upper)}: ${missed}`;
-  return { number, activity, had, missed, short, text: `${short} ${kind}`, isRun: kind === 'run', told };
+  const detail = `takes ${minus(minutesText(had))}, may take ${spanText(lower, upper)}: ${missed}`;
+  return { number, activity, had, missed, short, text: `${short} ${kind}`, isRun: kind === 'run', detail };
 };
 
 // The violated activities of what is shown: all of them, and by each event at which one begins or ends.
@@ -56,8 +56,8 @@ export const isAlarming = (view, event) => isOutside(view, event) || conflictsOf
 // The first of some conflicts with the count of the others, and the names of several; '' where there is none.
 export const shortConflicts = ([first, ...others]) => first ? `✕ ${first.text}${others.length ? ` +${others.length}` : ''}` : '';
 
-export const toldConflicts = conflicts =>
-  conflicts.slice(0, MOST_TOLD).map(({ activity, told }) => `${activityName(activity)} ${told}`).join('\n');
+export const detailsOf = conflicts =>
+  conflicts.slice(0, MOST_TOLD).map(({ activity, detail }) => `${activityName(activity)} ${detail}`).join('\n');
 
 // The words for an event that is not where it is held.
 export const outsideText = ({ network: { windows, period } }, event) => `not ${windowText(windows.get(event), period)}`;

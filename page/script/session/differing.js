@@ -1,19 +1,13 @@
 // What two networks with their timetables differ in, in the words of the Python package's `compare`: network, times, cost by kind.
 
+import { within } from './display.js';
 import { noLabels } from '../base/labels.js';
-import { activityName, clock, eventName, lengthText, minutesText, spanMinutes, spanText, windowText } from './names.js';
-import { within } from './shown.js';
+import { activityName, clock, eventName, lengthText, minutesText, windowText } from './names.js';
 import { turnsOf } from '../base/turning.js';
+import { changesOf } from './wording.js';
 
 const byNumber = (one, other) => one - other;
 const both = (one, other) => [...new Set([...one, ...other])].sort(byNumber);
-
-const changesOf = (old, now) => [
-  old.first === now.first && old.last === now.last ? '' : `from event ${now.first} to ${now.last}, was from ${old.first} to ${old.last}`,
-  old.lower === now.lower && old.upper === now.upper ? ''
-    : `${spanMinutes(now.lower, now.upper)}, was ${spanText(old.lower, old.upper)}`,
-  old.weight === now.weight ? '' : `weight ${now.weight.toLocaleString('en')}, was ${old.weight.toLocaleString('en')}`,
-].filter(Boolean).join(', ');
 
 const activityChanges = (before, after) => both(before.activities.keys(), after.activities.keys()).map(number => {
   const [old, now] = [before, after].map(({ activities }) => activities.get(number));
@@ -101,6 +95,6 @@ export const costsBeside = (before, after) => {
 // What they differ in but for cost; names are those after the change, and else those before.
 export const differences = (before, after) => {
   const labels = noLabels();
-  for (const part of ['events', 'kinds']) labels[part] = new Map([...before.labels[part], ...after.labels[part]]);
+  for (const kind of ['events', 'kinds']) labels[kind] = new Map([...before.labels[kind], ...after.labels[kind]]);
   return within(after, () => ({ network: networkChanges(before, after), times: timeChanges(before, after) }), labels);
 };

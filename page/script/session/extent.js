@@ -1,13 +1,13 @@
 // The minutes that are shown: all of a period, or a part of them. A diagram shows one period or two, and strips at most one.
 
-import { shown } from './shown.js';
+import { display } from './display.js';
 
 const LEAST = 10;
 let kept = { first: 0, count: Infinity, turns: 1 };
 
 const within = (value, least, most) => Math.min(most, Math.max(least, value));
 
-const periodNow = () => shown.view.network.period;
+const periodNow = () => display.view.network.period;
 
 export const isTwice = () => kept.turns > 1;
 

@@ -1,20 +1,20 @@
 // Events and activities in a planner's words: by stations and lines where there are labels, else by numbers.
 
-import { shown } from './shown.js';
+import { display } from './display.js';
 
 const NONE = { line: '', to: '', station: '', kind: '' };
 const DONE = new Map([['departure', 'leaves'], ['arrival', 'arrives at']]);
 const SHORT = new Map([['departure', 'dep.'], ['arrival', 'arr.']]);
 
-export const labelOf = event => shown.labels.events.get(event) || NONE;
+export const labelOf = event => display.labels.events.get(event) || NONE;
 
 // What an activity is, as the labels say.
-export const kindOf = number => shown.labels.kinds.get(number) || 'activity';
+export const kindOf = number => display.labels.kinds.get(number) || 'activity';
 
 // Of trains that begin alike one is told apart from the others by its minute, where an event of it is given.
 export const trainName = ({ line, to }, event) => `${[line, to].filter(Boolean).join(' to ') || 'a train'}${twinText(event)}`;
 
-export const twinText = event => shown.view.twins?.has(event) ? ` (${shown.view.twins.get(event)})` : '';
+export const twinText = event => display.view.twins?.has(event) ? ` (${display.view.twins.get(event)})` : '';
 
 export const eventName = event => {
   const label = labelOf(event);
@@ -31,7 +31,7 @@ export const eventShort = event => {
 
 export const activityName = ({ number, first, last }) => {
   const kind = kindOf(number), [from, to] = [labelOf(first), labelOf(last)];
-  if (!from.station || !to.station) return `${kind} ${number} from event ${first} to event ${last}`;
+  if (!from.station || !to.station) return `${kind} ${number} from ${eventName(first)} to ${eventName(last)}`;
   const where = from.station === to.station ? from.station : `${from.station} and ${to.station}`;
   if (from.line === to.line && from.to === to.to) {
     if (from.station === to.station) return `${kind} of ${trainName(from, first)} at ${from.station}`;
@@ -52,7 +52,7 @@ export const stepOf = (count, period = count, room = period > 60 ? 7 : 12) =>
 const twoDigits = number => String(number).padStart(2, '0');
 
 // Above an hour all is told with the hour.
-export const isOfHours = () => shown.view.network.period > 60;
+export const isOfHours = () => display.view.network.period > 60;
 
 const hours = minutes => `${Math.floor(minutes / 60)}:${twoDigits(minutes % 60)}`;
 

@@ -1,6 +1,7 @@
 // The session: what was opened, the steps since, and which of them are done. What is shown is what a session of the program tells,
 // which is kept open and asked the lines of each step alone; it can be opened anew from the base and all lines.
 
+import { beginDisplay, display, setChosen, setChosenLine, setLabels, setView, within } from './display.js';
 import { editsOf } from '../base/edits.js';
 import { say } from '../base/elements.js';
 import { follow, neededBefore } from '../base/following.js';
@@ -8,10 +9,10 @@ import { keepingKeys } from '../base/keeping.js';
 import { noLabels } from '../base/labels.js';
 import { labelOf } from './names.js';
 import { does, look, openFirst, openSession, prepared, RunFault } from '../base/running.js';
-import { beginShown, setChosen, setChosenLine, setLabels, setView, shown } from './shown.js';
 import { ofTimed } from '../base/timed.js';
 import { linesOf, trainsOf, twinsOf } from './trains.js';
 import { isInfeasible } from '../base/viewing.js';
+import { countText, editsText, faultInWords, refusalText } from './wording.js';
 
 const state = { opened: null, steps: [], place: 0 };
 
@@ -24,7 +25,7 @@ export const session = Object.freeze({
 
 // The program's session, null where it has to be opened anew; what it told last, of the state that it has; and the lines of a
 // drag's step that it has beside those of the steps, with those that take them back, null where there are none.
-let kept = null, told = null, tried = null;
+let kept = null, latest = null, tried = null;
 // What it told of the present step.
 let settled = null;
 
@@ -56,26 +57,36 @@ const doneAgain = (opened, first, { steps, labels }, mark) => {
   return { steps: made, now };
 };
 
+// A session of a base after what was done with it before, and what it tells then. Raises RunFault, in words.
+const openedWith = (base, labels, again, mark) => {
+  try {
+    const { session: opened, network, times } = openFirst(base);
+    const made = prepared(opened, () => {
+      const { now, steps } = doneAgain(opened, { network, times }, again, mark);
+      return { steps, latest: { ...now, ...look(opened, now.network) } };
+    });
+    return { ...made, opened, network, times };
+  } catch (fault) {
+    throw faultInWords(fault, base.period, labels);
+  }
+};
+
 // Opens a base with its labels and places, does what was done with it before, and shows it. Raises RunFault, and then nothing has
 // changed.
 export const openBase = (base, { title = '', labels = noLabels(), places = new Map(), again = NO_STEPS } = {}) => {
-  const { session: opened, network, times } = openFirst(base), mark = last += 1;
-  const { steps, told: made } = prepared(opened, () => {
-    const { now, ...done } = doneAgain(opened, { network, times }, again, mark);
-    return { ...done, told: { ...now, ...look(opened, now.network) } };
-  });
+  const mark = last += 1, { opened, network, times, steps, latest: made } = openedWith(base, labels, again, mark);
   settled = made;
   close();
   kept = opened;
   Object.assign(state, { opened: { base, times, title, labels, network, mark }, steps, place: steps.length });
-  beginShown(steps.length ? again.labels : labels, places);
+  beginDisplay(steps.length ? again.labels : labels, places);
   panels.forEach(({ begin }) => begin && begin());
   show({ ...settled });
 };
 
 const close = () => {
   if (kept) kept.close();
-  [kept, told, tried] = [null, settled, null];
+  [kept, latest, tried] = [null, settled, null];
 };
 
 // Does something with the session, which is opened at the present step where it is not open. After a fault it is opened anew, so
@@ -108,17 +119,17 @@ const refusalOf = edits => {
   for (const [place, { line }] of edits.entries()) {
     const [reply] = kept.ask(line);
     if (reply === 'ok') continue;
-    for (const each of follow(told, edits.slice(0, place)).back) kept.ask(each.line);
-    return `${line} — ${reply}`;
+    for (const each of follow(latest, edits.slice(0, place)).back) kept.ask(each.line);
+    return refusalText(edits[place], reply, latest.network);
   }
   return '';
 };
 
 // What the session tells after some edits, which it has done; what they cannot have changed is not asked.
 const lookAfter = edits => {
-  const { network, times, questions } = follow(told, edits);
-  told = { ...told, network, times, ...look(kept, network, questions) };
-  return told;
+  const { network, times, questions } = follow(latest, edits);
+  latest = { ...latest, network, times, ...look(kept, network, questions) };
+  return latest;
 };
 
 // Has the session try some edits after the present step, in the place of those tried before; false where one is refused, which is
@@ -137,7 +148,7 @@ const isTried = more => Boolean(tried) && tried.edits.length === more.length && 
 
 // Shows what some edits, or their lines, would make, as a step of a drag, or above what is `before` it; a title says in a planner's words what they do.
 export const preview = (more, title = '', before = null) => {
-  if (tries(editsOf(more))) show({ ...told, title, before, isTried: true });
+  if (tries(editsOf(more))) show({ ...latest, title, before, isTried: true });
 };
 
 // The step that was done last; what was opened where none was.
@@ -145,25 +156,26 @@ export const stepNow = () => state.steps[state.place - 1] || state.opened;
 
 // What was tried is of the present step from now on.
 const settle = () => {
-  [settled, tried] = [told, null];
+  [settled, tried] = [latest, null];
 };
 
 // Does some edits, or their lines, as one step, with other names or without, which can be undone; false where one is refused,
 // and then nothing has changed. A title says in a planner's words what they do; what `isFound` is a timetable that was found, and
-// `own` are the edits of the hand, where others follow it.
-export const doStep = (given, { title = '', labels = shown.labels, isFound = false, own = given } = {}) => {
-  const more = editsOf(given);
+// `own` are the edits of the hand, where others follow it, which `also` says.
+export const doStep = (given, { title = '', labels = display.labels, isFound = false, own = given, also = '' } = {}) => {
+  const more = editsOf(given), hand = editsOf(own);
   if (!isTried(more) && !tries(more)) {
     refresh();
     return false;
   }
-  const made = { ...tried, mark: markAfter(told.network, settled.network, markNow()), title, labels, isFound, own: editsOf(own) };
+  const words = `${title || within(display.view, () => editsText(hand, settled.network, latest.network), labels)}${also}`;
+  const made = { ...tried, mark: markAfter(latest.network, settled.network, markNow()), title: words, labels, isFound, own: hand };
   settle();
   state.steps.splice(state.place, Infinity, made);
   state.place += 1;
   setLabels(labels);
-  say(title || (more.length > 1 ? `${more.length} commands` : titleOf(made)));
-  show({ ...told, title });
+  say(words);
+  show({ ...latest, title: title && words });
   return true;
 };
 
@@ -173,13 +185,13 @@ export const extendStep = (more, title) => {
   if (!tries(more)) return refresh();
   state.steps[state.place - 1] = { ...step, edits: [...step.edits, ...more], back: [...tried.back, ...step.back], title };
   settle();
-  return show({ ...told, title });
+  return show({ ...latest, title });
 };
 
 // Has the session take back what was tried.
 const leaveTried = () => {
   if (tried) toldWith(() => refusalOf(tried ? tried.back : []));
-  [told, tried] = [settled, null];
+  [latest, tried] = [settled, null];
 };
 
 // Shows the present state again.
@@ -197,10 +209,9 @@ const go = (place, word) => {
   settle();
   setLabels((place ? state.steps[place - 1] : state.opened).labels);
   say(word);
-  show({ ...told });
+  show({ ...latest });
 };
-export const titleOf = ({ edits, title }) =>
-  title || (!edits.length ? 'a name' : edits.length === 1 ? edits[0].line : `${edits[0].line} and ${edits.length - 1} more commands`);
+export const titleOf = ({ edits, title }) => title || countText(edits.length);
 
 export const undo = () => state.place && go(state.place - 1, `undone: ${titleOf(state.steps[state.place - 1])}`);
 export const redo = () => state.place < state.steps.length
@@ -237,8 +248,8 @@ const groupsOf = ({ network }) => {
 };
 
 const show = view => {
-  const before = shown.view;
-  setView(Object.assign(view, view.missing && ofTimed(view), { labels: shown.labels, lastDomains: before ? lastDomains(before) : view.domains }));
+  const before = display.view;
+  setView(Object.assign(view, view.missing && ofTimed(view), { labels: display.labels, lastDomains: before ? lastDomains(before) : view.domains }));
   const isBuilt = !before || before.labels !== view.labels || before.network.shape !== view.network.shape;
   Object.assign(view, isBuilt ? groupsOf(view) : { trains: before.trains, lines: before.lines });
   // Names stay while something is dragged.
@@ -247,8 +258,8 @@ const show = view => {
 };
 
 export const redraw = (isBuilt = false) => keepingKeys(() => panels.forEach(panel => {
-  if (isBuilt && panel.build) panel.build(shown.view);
-  panel.update(shown.view);
+  if (isBuilt && panel.build) panel.build(display.view);
+  panel.update(display.view);
 }));
 
 // The domains when some time was last possible, for the events that have none now.
@@ -259,23 +270,23 @@ const lastDomains = view => {
 
 // Shows nothing but a view that no run has told, as a report has one.
 export const readView = (view, places) => {
-  beginShown(view.labels, places);
+  beginDisplay(view.labels, places);
   setView(Object.assign(view, { lastDomains: view.domains }));
   Object.assign(view, groupsOf(view));
   view.twins = twinsOf(view);
 };
 
 export const choose = event => {
-  if (shown.chosen === event) return;
+  if (display.chosen === event) return;
   setChosen(event);
-  const line = shown.view.lines.find(each => each.name === labelOf(event).line);
+  const line = display.view.lines.find(each => each.name === labelOf(event).line);
   if (line) setChosenLine(line.name);
   redraw();
 };
 
 // Chooses the first of some events where the chosen one is none of them.
 export const chooseAmong = events => {
-  if (!events.includes(shown.chosen)) setChosen(events.length ? events[0] : null);
+  if (!events.includes(display.chosen)) setChosen(events.length ? events[0] : null);
 };
 
 export const chooseLine = name => {

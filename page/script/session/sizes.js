@@ -1,9 +1,9 @@
 // How large the pictures on the screen are: they fill what their views leave them.
 
+import { display } from './display.js';
 import { find } from '../base/elements.js';
 import { minutesOfDiagram } from './extent.js';
 import { redraw } from './session.js';
-import { shown } from './shown.js';
 
 const PICTURES = ['diagram', 'corridor', 'netgraph'];
 // What was measured, until it may be another size: measuring has a browser lay out the page.
@@ -30,7 +30,7 @@ export const forgetRooms = () => rooms.clear();
 export const startSizes = () => {
   const observer = new ResizeObserver(changes => {
     const isOther = ({ target }) => target.clientWidth && JSON.stringify(spaceOf(target.id)) !== JSON.stringify(measured(target));
-    if (!shown.view || !changes.some(isOther)) return;
+    if (!display.view || !changes.some(isOther)) return;
     forgetRooms();
     redraw();
   });

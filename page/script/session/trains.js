@@ -1,7 +1,7 @@
 // Trains and lines, found from labels: a train is a chain of runs and dwells of one line with one destination.
 
+import { display } from './display.js';
 import { clock, labelOf } from './names.js';
-import { shown } from './shown.js';
 import { minutesHad } from '../base/viewing.js';
 
 // The style has so many colors of lines, other ones where it is dark.
@@ -10,7 +10,7 @@ const COLORS = 10;
 const colorOf = place => `var(--line-${place % COLORS})`;
 
 const isStep = ({ number, first, last }) => {
-  const kind = shown.labels.kinds.get(number) || '', [from, to] = [labelOf(first), labelOf(last)];
+  const kind = display.labels.kinds.get(number) || '', [from, to] = [labelOf(first), labelOf(last)];
   if (!from.line || from.line !== to.line || from.to !== to.to) return false;
   if (from.kind === 'departure' && to.kind === 'arrival') return from.station !== to.station && (kind === '' || kind === 'run');
   return from.kind === 'arrival' && to.kind === 'departure' && from.station === to.station && (kind === '' || kind === 'dwell');
@@ -41,7 +41,7 @@ const places = new WeakMap();
 
 // The train of an event with the event's place in it.
 export const trainAt = event => {
-  const { trains } = shown.view;
+  const { trains } = display.view;
   if (!places.has(trains)) places.set(trains, new Map(trains.flatMap(train => train.events.map((each, place) => [each, { train, place }]))));
   return places.get(trains).get(event);
 };
@@ -62,32 +62,32 @@ const withStops = train => {
 
 // What tells trains apart that begin alike, by their events: the minute at which each begins, or its place among them.
 export const twinsOf = ({ trains, times }) => {
-  const alike = new Map(), told = new Map();
+  const alike = new Map(), texts = new Map();
   for (const train of trains) {
     const key = JSON.stringify([train.line, train.to, train.stations[0]]);
     if (alike.has(key)) alike.get(key).push(train);
     else alike.set(key, [train]);
   }
   for (const group of [...alike.values()].filter(({ length }) => length > 1)) {
-    group.forEach(({ events }, place) => events.forEach(event => told.set(event, times.has(events[0]) ? clock(times.get(events[0])) : `no. ${place + 1}`)));
+    group.forEach(({ events }, place) => events.forEach(event => texts.set(event, times.has(events[0]) ? clock(times.get(events[0])) : `no. ${place + 1}`)));
   }
-  return told;
+  return texts;
 };
 
 // The part of a train from one of its events to before another.
-export const trainPart = (train, start, end) =>
+export const pieceOf = (train, start, end) =>
   withStops({ ...train, events: train.events.slice(start, end), steps: train.steps.slice(start, end - 1) });
 
-// The parts of a train that some of its events make, each as a train.
-export const partsWhere = (train, isOfPart) => {
-  const parts = [];
+// The pieces of a train that some of its events make, each as a train.
+export const piecesWhere = (train, isOfPart) => {
+  const pieces = [];
   train.events.forEach((event, place) => {
     if (!isOfPart(event)) return;
-    const last = parts[parts.length - 1];
+    const last = pieces[pieces.length - 1];
     if (last && last.end === place) last.end = place + 1;
-    else parts.push({ start: place, end: place + 1 });
+    else pieces.push({ start: place, end: place + 1 });
   });
-  return parts.map(({ start, end }) => trainPart(train, start, end));
+  return pieces.map(({ start, end }) => pieceOf(train, start, end));
 };
 
 // The stations of a train with its arrivals and departures.
@@ -142,11 +142,11 @@ const minutesOf = (view, train) => {
   return minutes;
 };
 
-// The parts of a train that have times, each with its minutes: the train itself where all are there.
-export const timedParts = (view, train) => {
+// The pieces of a train that have times, each with its minutes: the train itself where all are there.
+export const timedPieces = (view, train) => {
   const minutes = minutesOf(view, train);
   if (minutes) return [{ train, minutes }];
-  return view.tensions ? partsWhere(train, event => view.times.has(event)).map(part => ({ train: part, minutes: minutesOf(view, part) })) : [];
+  return view.tensions ? piecesWhere(train, event => view.times.has(event)).map(piece => ({ train: piece, minutes: minutesOf(view, piece) })) : [];
 };
 
 // The first events of those that stay where others are mended.
@@ -159,7 +159,7 @@ const firstOf = event => {
 
 export const isStaying = event => staying.has(firstOf(event));
 
-export const stayingEvents = () => shown.view.trains.filter(({ events }) => isStaying(events[0])).flatMap(({ events }) => events);
+export const stayingEvents = () => display.view.trains.filter(({ events }) => isStaying(events[0])).flatMap(({ events }) => events);
 
 export const setStaying = (event, isKept) => staying[isKept ? 'add' : 'delete'](firstOf(event));
 

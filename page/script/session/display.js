@@ -6,7 +6,7 @@ let view = null, labels = noLabels(), places = new Map(), chosen = null, chosenL
 
 // The same, to be read: the state that was told last, null where none was; the names of what is open and the places of its stations;
 // an event, and a line by its name.
-export const shown = Object.freeze({
+export const display = Object.freeze({
   get view() { return view; },
   get labels() { return labels; },
   get places() { return places; },
@@ -15,7 +15,7 @@ export const shown = Object.freeze({
 });
 
 // Another network is open, of which nothing is shown or chosen yet.
-export const beginShown = (its, placesOfIt) => {
+export const beginDisplay = (its, placesOfIt) => {
   [view, labels, places, chosen, chosenLine] = [null, its, placesOfIt, null, null];
 };
 

@@ -34,7 +34,7 @@ const nearest = reached => {
 };
 
 // The stations of the shortest way, its ends too, which passes none of some others; null where there is none.
-export const wayBetween = (neighbours, start, end, passed) => {
+export const routeBetween = (neighbours, start, end, passed) => {
   const reached = new Map([[start, { station: start, minutes: 0, before: null, isLeft: false }]]);
   for (let at = nearest(reached); at && at.station !== end; at = nearest(reached)) {
     at.isLeft = true;
@@ -43,7 +43,7 @@ export const wayBetween = (neighbours, start, end, passed) => {
       if (!passed.has(station) && !(known && known.minutes <= minutes)) reached.set(station, { station, minutes, before: at, isLeft: false });
     }
   }
-  const way = [];
-  for (let at = reached.get(end); at; at = at.before) way.unshift(at.station);
-  return way.length ? { stations: way, minutes: reached.get(end).minutes } : null;
+  const route = [];
+  for (let at = reached.get(end); at; at = at.before) route.unshift(at.station);
+  return route.length ? { stations: route, minutes: reached.get(end).minutes } : null;
 };
