@@ -6,7 +6,7 @@ _pespbench() {
     --fixed | --times) COMPREPLY=($(compgen -f -- "$word")) ;;
     *)
         if [[ $word == -* ]]; then
-            COMPREPLY=($(compgen -W '--period --fixed --times --check --help' -- "$word"))
+            COMPREPLY=($(compgen -W '--period --fixed --times --check --help --version' -- "$word"))
         else
             COMPREPLY=($(compgen -f -- "$word"))
         fi

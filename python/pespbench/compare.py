@@ -95,13 +95,13 @@ def activity_changes(before: Network, after: Network, names: Names) -> Iterator[
         if old is None or new is None:
             yield f"{names.activity(number)}: {'added' if old is None else 'dropped'}"
         elif old != new:
-            yield f"{names.activity(number)}: {', '.join(changes(old, new))}"
+            yield f"{names.activity(number)}: {', '.join(changes(old, new, names))}"
 
 
-def changes(old: Activity, new: Activity) -> Iterator[str]:
+def changes(old: Activity, new: Activity, names: Names) -> Iterator[str]:
     """What is other of an activity."""
     if (old.from_event, old.to_event) != (new.from_event, new.to_event):
-        yield f"from event {new.from_event} to {new.to_event}, was from {old.from_event} to {old.to_event}"
+        yield ", was ".join(f"from {names.event(each.from_event)} to {names.event(each.to_event)}" for each in (new, old))
     if (old.lower, old.upper) != (new.lower, new.upper):
         yield f"{span_text(new.lower, new.upper)} minutes, was {span_text(old.lower, old.upper)}"
     if old.weight != new.weight:

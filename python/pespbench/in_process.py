@@ -163,14 +163,20 @@ class InProcess(Transport):
 
     def priced(self, event: int, time: int, nodes: int, deadline: Optional[float] = None) -> Optional[Reached]:
         """What a search with the event at a time comes to, by the call for it, where the library has one."""
-        call = self._calls.price
+        return self._price(self._calls.price, (event, time, nodes), deadline)
+
+    def priced_tension(self, activity: int, tension: int, nodes: int, deadline: Optional[float] = None) -> Optional[Reached]:
+        """The same with a tension of the activity."""
+        return self._price(self._calls.price_tension, (activity, tension, nodes), deadline)
+
+    def _price(self, call: Optional[Callable[..., None]], asked: Tuple[int, int, int], deadline: Optional[float]) -> Optional[Reached]:
         if call is None:
             return None
-        return self._in_time(partial(self._priced, call, event, time, nodes), None if deadline is None else deadline + PATIENCE)
+        return self._in_time(partial(self._priced, call, asked), None if deadline is None else deadline + PATIENCE)
 
-    def _priced(self, call: Callable[..., None], event: int, time: int, nodes: int) -> Reached:
+    def _priced(self, call: Callable[..., None], asked: Tuple[int, int, int]) -> Reached:
         came = ToldFound()
-        call(self._at, event, time, nodes, ctypes.addressof(came), self._told_at)
+        call(self._at, *asked, ctypes.addressof(came), self._told_at)
         if self._told.status != DONE:
             raise ended_by(self._told)
         return Reached(found_by(came.state, came.cost, {}), came.lower_bound, goes_on=came.goes_on == 1)

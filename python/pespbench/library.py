@@ -94,10 +94,12 @@ class Calls(NamedTuple):
     search: Optional[Callable[..., None]] = None
     try_move: Optional[Callable[..., None]] = None
     price: Optional[Callable[..., None]] = None
+    price_tension: Optional[Callable[..., None]] = None
 
 
 ADDRESS, LENGTH = ctypes.c_void_p, ctypes.c_size_t
 BYTES = [ctypes.c_char_p, LENGTH]
+PRICED = [ctypes.c_uint32, ctypes.c_uint16, ctypes.c_uint64, ADDRESS, ADDRESS]
 PARAMETERS = {
     "pesp_open": [ctypes.c_uint16, *BYTES, *BYTES, *BYTES, ADDRESS, ADDRESS],
     "pesp_ask": [ADDRESS, *BYTES, ADDRESS, LENGTH, ADDRESS],
@@ -105,9 +107,10 @@ PARAMETERS = {
     "pesp_close": [ADDRESS],
     "pesp_search": [ADDRESS, ctypes.c_uint64, ADDRESS, LENGTH, ADDRESS, ADDRESS],
     "pesp_try_move": [ADDRESS, ctypes.c_uint32, ctypes.c_uint16, ADDRESS, ADDRESS],
-    "pesp_price": [ADDRESS, ctypes.c_uint32, ctypes.c_uint16, ctypes.c_uint64, ADDRESS, ADDRESS],
+    "pesp_price": [ADDRESS, *PRICED],
+    "pesp_price_tension": [ADDRESS, *PRICED],
 }
-NEWER = ("pesp_search", "pesp_try_move", "pesp_price")
+NEWER = ("pesp_search", "pesp_try_move", "pesp_price", "pesp_price_tension")
 
 
 @functools.lru_cache(maxsize=None)

@@ -58,8 +58,10 @@ class Nearest:
         return self.near
 
     def _steps(self) -> Iterator[Near]:
-        if self._wish.times.keys() == self._network.windows.keys():
-            violations, near = self._asked_bench(self._wish.times)
+        wish = self._wish
+        # An event whose minutes count nothing may still have a cheaper time.
+        if wish.times.keys() == self._network.windows.keys() and all(map(wish.weight, wish.times)):
+            violations, near = self._asked_bench(wish.times)
             if not len(violations):
                 self._tell(replace(near, lower_bound=0, is_proved=True))
                 yield self.near

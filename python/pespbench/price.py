@@ -7,7 +7,7 @@ from typing import TYPE_CHECKING, List, Mapping, Optional, Set, Union
 
 from pespbench.answers import Infeasible, Optimum
 from pespbench.network import Activity, Network
-from pespbench.transport import Reached
+from pespbench.transport import Reached, Transport
 
 if TYPE_CHECKING:
     from pespbench.questions import Questions
@@ -86,8 +86,12 @@ class OfEvent:
         """The command that requires a residue."""
         return f"fix {self.event} {value}"
 
+    def price(self, transport: Transport, residue: int, nodes: int, until: float) -> Optional[Reached]:
+        """What a search with a residue reaches, if the engine has a call for it."""
+        return transport.priced(self.event, residue, nodes, until)
+
     def constant(self, value: int) -> int:
-        """What the line takes off the cost."""
+        """What the line or the call takes off the cost."""
         return 0
 
     def possible(self, bench: "Questions") -> Set[int]:
@@ -118,8 +122,12 @@ class OfActivity:
         """The command that requires a tension."""
         return f"span {self.activity.number} {value} {value}"
 
+    def price(self, transport: Transport, residue: int, nodes: int, until: float) -> Optional[Reached]:
+        """What a search with a tension reaches, up to whole periods, if the engine has a call for it."""
+        return transport.priced_tension(self.activity.number, residue, nodes, until)
+
     def constant(self, value: int) -> int:
-        """What the line takes off the cost, since minutes up to the new lower bound cost nothing."""
+        """What the line or the call takes off the cost, since minutes up to the new lower bound cost nothing."""
         return self.activity.weight * (value - self.activity.lower)
 
     def possible(self, bench: "Questions") -> Set[int]:

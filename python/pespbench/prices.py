@@ -6,7 +6,7 @@ import time as clock
 from typing import TYPE_CHECKING, Callable, Dict, Iterator, List, Mapping, Optional, Set
 
 from pespbench.commands import MOST_NODES
-from pespbench.price import OfEvent, Price, Question, cuts, price_of
+from pespbench.price import Price, Question, cuts, price_of
 from pespbench.searching import MOST_SECONDS, check_limits
 from pespbench.transport import OutOfTime, Reached
 
@@ -25,7 +25,7 @@ class Prices:
     First come the values that the domains rule out, which take no search. Each other value has a turn, nearest to the present one
     first; what is undecided then has a longer one in the next round, cheapest first. A turn leaves network, working timetable and
     journal unchanged, whatever ends it: so iteration can stop and resume, and `extend` gives it more time. A turn is a trial, an
-    edit with a search; a library that has `pesp_price` needs no edit.
+    edit with a search; a library that has the calls for prices needs no edit.
     """
 
     def __init__(
@@ -155,13 +155,12 @@ class Prices:
 
     def _asked(self, value: int) -> Price:
         """What a turn comes to."""
-        question, constant, until = self._question, self._question.constant(value), self._until
-        if isinstance(question, OfEvent):
-            event, nodes = question.event, self._nodes
-            reached = self._bench._session.by_call(lambda transport: transport.priced(event, value, nodes, until))
-            if reached is not None:
-                return price_of(value, reached, constant)
-        return price_of(value, self._by_lines(value, self._cuts, self._nodes, until), constant, self._within)
+        question, constant, nodes, until = self._question, self._question.constant(value), self._nodes, self._until
+        residue = value % self._network.period
+        reached = self._bench._session.by_call(lambda transport: question.price(transport, residue, nodes, until))
+        if reached is not None:
+            return price_of(value, reached, constant)
+        return price_of(value, self._by_lines(value, self._cuts, nodes, until), constant, self._within)
 
     def _by_lines(self, value: int, edits: List[str], nodes: int, until: float) -> Reached:
         """What a search comes to with edits and a value. Raises OutOfTime."""

@@ -65,6 +65,10 @@ class Transport:
         """What a search with the event at a time comes to, without its times, where there is a call for it. As `searched`."""
         return None
 
+    def priced_tension(self, activity: int, tension: int, nodes: int, deadline: Optional[float] = None) -> Optional[Reached]:
+        """The same with a tension of the activity, up to whole periods; the activity itself then costs nothing."""
+        return None
+
     def tried(self, event: int, time: int) -> Optional[int]:
         """By how much a time would change the cost, where that can be told at once; nothing changes."""
         return None

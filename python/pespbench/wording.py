@@ -52,7 +52,7 @@ def activity_name(activity: NamedKind, first: Named, last: Named) -> str:
     """An activity, as `change at Benton from R1 to Cranley to R3 to Dale`, or by the numbers of its events."""
     kind = activity.kind or "activity"
     if not (first.station and last.station):
-        return f"{kind} {activity.number} from event {first.number} to event {last.number}"
+        return f"{kind} {activity.number} from {event_name(first)} to {event_name(last)}"
     if (first.line, first.to) == (last.line, last.to):
         if first.station == last.station:
             return f"{kind} of {train_name(first)} at {first.station}"

@@ -5,6 +5,7 @@ from __future__ import annotations
 import ctypes
 import re
 from array import array
+from functools import partial
 from typing import Callable, Dict, List, MutableSequence, Optional, Tuple, Union
 
 from pespbench.commands import CHANGES, name_of
@@ -23,7 +24,8 @@ class StandIn:
 
     Where it has the lower bound that a search tells after so many nodes, it has the call for searches, too. Calls of that one
     after the other are one search, which answers as `try` does with all their nodes; an edit of the network begins it anew.
-    Where it has prices, by event, time and nodes, it has the call for them: each is a state, a cost and a lower bound.
+    Where it has prices, by an event or activity, a residue and nodes, it has the calls for them: each is a state, a cost and a
+    lower bound.
     """
 
     def __init__(
@@ -38,7 +40,8 @@ class StandIn:
 
     def calls(self) -> Calls:
         """The calls, as those of a library."""
-        return Calls(self._open, self._ask, self._cost, self._close, self._search if self.bound else None, price=self._price if self.price else None)
+        prices = [partial(self._price, name) if self.price else None for name in (b"pesp_price", b"pesp_price_tension")]
+        return Calls(self._open, self._ask, self._cost, self._close, self._search if self.bound else None, None, *prices)
 
     def _open(self, *given: int) -> None:
         Told.from_address(given[-1]).status = self.status
@@ -85,11 +88,11 @@ class StandIn:
         found.lower_bound = self.bound(self.nodes) if self.bound else 0
         found.goes_on = found.state < 2
 
-    def _price(self, _: int, event: int, time: int, nodes: int, found: int, told: int) -> None:
+    def _price(self, name: bytes, _: int, number: int, residue: int, nodes: int, found: int, told: int) -> None:
         assert self.price is not None
-        self.lines.append(b"pesp_price %d %d %d" % (event, time, nodes))
+        self.lines.append(b"%b %d %d %d" % (name, number, residue, nodes))
         telling = ToldFound.from_address(found)
-        telling.state, telling.cost, telling.lower_bound = self.price(event, time, nodes)
+        telling.state, telling.cost, telling.lower_bound = self.price(number, residue, nodes)
         telling.goes_on, Told.from_address(told).status = telling.state < 2, 0
 
     def _close(self, handle: int) -> None:

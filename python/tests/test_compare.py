@@ -40,7 +40,7 @@ class Compare(Case):
 
     def test_ends_and_events(self) -> None:
         text = self.sides(["add event 9", "ends 42 6 9"])
-        self.assertIn("from event 6 to 9, was from 6 to 7", text)
+        self.assertIn("from event 6 to event 9, was from event 6 to event 7", text)
         self.assertIn("  event 9: added\n", text)
         self.assertIn("not known, since a time is missing", text)
         self.assertIn("1 before, not known after", text)

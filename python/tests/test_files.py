@@ -164,7 +164,7 @@ class LabelFiles(Case):
         activities = {7: Activity(7, 1, 2, 3, 5), 8: Activity(8, 1, 3, 3, 5)}
         names = Names(labels, activities)
         self.assertEqual([names.event(1), names.event(3)], ["M to Cranley leaves Ashford", "event 3"])
-        self.assertEqual(names.activity(8), "activity 8 from event 1 to event 3")
+        self.assertEqual(names.activity(8), "activity 8 from M to Cranley leaves Ashford to event 3")
         labels.write(self.folder / "other")
         self.assertEqual(Labels.read(self.folder / "other"), labels)
         named = self.read("activity; kind\n1; run\ncost; passenger minutes\n")

@@ -117,6 +117,8 @@ class Equal(Case):
         with mock.patch("pespbench.nearest.Search", side_effect=RuntimeError):
             self.assertEqual(bench.near({1: 0, 2: 5}).found(), Near({1: 0, 2: 5}, {}, 0, 5, 0, True))
         self.assertEqual((bench.near().found().cost, bench.times), (4, {}))
+        near = bench.near({1: 0, 2: 5}, weights={2: 0}).found()
+        self.assertEqual((near.minutes, near.cost, near.moves, near.is_proved), (0, 4, {2: -1}, True))
         bench.span(1, 3, 3)
         self.assertEqual((bench.near({1: 0, 2: 5}).found(), mended(bench)), (Near(is_proved=True), Mended(Near(is_proved=True))))
 

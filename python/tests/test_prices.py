@@ -10,7 +10,7 @@ from concurrent.futures import ThreadPoolExecutor
 from typing import Any, Dict, List, Mapping, Optional, Tuple
 from unittest import mock
 
-from pespbench import Bench, Engine, Fault, Infeasible, Network, Optimum, Price, Refused, Stopped, Violations, all_prices
+from pespbench import Activity, Bench, Engine, Fault, Infeasible, Network, Optimum, Price, Refused, Stopped, Violations, all_prices
 from pespbench.faults import WrongWords
 from pespbench.prices import Prices
 from tests.common import PATIENCE, SOON, Case, Whole, drawn_script, over_both
@@ -253,19 +253,19 @@ class OverPipes(Case):
 
 
 class ByCall(Case):
-    """Over a library that has the call for prices, of a stand-in."""
+    """Over a library that has the calls for prices, of a stand-in."""
 
     STATES = {1_000: (0, 0, 3), 4_000: (1, 8, 4), 16_000: (2, 7, 7)}
 
-    def opened(self) -> Bench:
-        def price(event: int, time: int, nodes: int) -> Tuple[int, int, int]:
-            return (3, 0, 0) if time == 4 else self.STATES[nodes]
+    def opened(self, **missing: Any) -> Bench:
+        def price(number: int, residue: int, nodes: int) -> Tuple[int, int, int]:
+            return (3, 0, 0) if residue == 4 else self.STATES[nodes]
 
         def answer(line: bytes) -> object:
             return usual(line, {b"domain 1": lambda: b"1: 3 4\n", b"try 16000": lambda: b"stopped none\n", b"try 64000": lambda: b"optimum 7 1\n1 3\n"})
 
         self.library = StandIn(answer, price=price)  # type: ignore[arg-type]
-        loading = mock.patch("pespbench.library.loaded", return_value=self.library.calls())
+        loading = mock.patch("pespbench.library.loaded", return_value=self.library.calls()._replace(**missing))
         loading.start()
         self.addCleanup(loading.stop)
         bench = Bench.open(None, period=10, engine=Engine("library", "stand-in"))
@@ -286,6 +286,22 @@ class ByCall(Case):
         self.assertEqual((prices.timetable(3), bench.journal), ({1: 3}, ["add event 1"]))
         bench.take(prices.known[3])
         self.assertEqual(bench.times, {1: 3})
+
+    def test_tensions(self) -> None:
+        """Each is asked for within the period, and the activity's own cost is added."""
+        bench = self.opened()
+        bench.add_activity(Activity(2, 1, 1, 8, 25, 2))
+        del self.library.lines[:]
+        found = bench.prices(activity=2).found()
+        self.assertEqual({value: price.cost for value, price in found.items()}, {**dict.fromkeys(range(8, 18)), 9: 9, 10: 11, 11: 13})
+        asked = [b"pesp_price_tension 2 %d %d" % (residue, nodes) for nodes in self.STATES for residue in (9, 0, 1)]
+        self.assertEqual((list(self.library.lines), bench.journal[1:]), ([b"domain 1"] * 2 + asked, ["add activity 2 1 1 8 25 2"]))
+
+    def test_a_library_without_tensions(self) -> None:
+        """A tension is tried by lines, as without a library."""
+        bench = self.opened(price_tension=None)
+        bench.add_activity(Activity(2, 1, 1, 10, 10, 0))
+        self.assertEqual((bench.prices(activity=2, nodes=16_000, seconds=5).found()[10], b"span 2 10 10" in self.library.lines), (Price(10, 7, 7, True), True))
 
     def test_within(self) -> None:
         """A bound above the cap ends it."""

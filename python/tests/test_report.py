@@ -182,7 +182,7 @@ class Others(Case):
 
     def test_without_times(self) -> None:
         text = self.page(self.two_trains()).text
-        self.assertIn("event 1 has no time", text)
+        self.assertIn("2 events have no time", text)
         self.assertNotIn("What is violated", text)
 
     def test_headlines(self) -> None:
