@@ -109,6 +109,8 @@ static struct pesp_told put(struct bench *bench, void *out, size_t out_length, s
     return told;
 }
 
+EXPORTED uint32_t pesp_version(void) { return PESP_VERSION; }
+
 EXPORTED void pesp_answer(uint16_t period, const uint8_t *activities, size_t activities_length, const uint8_t *fixed,
                           size_t fixed_length, const uint8_t *times, size_t times_length, const uint8_t *commands,
                           size_t commands_length, uint8_t *out, size_t out_length, struct pesp_told *told) {

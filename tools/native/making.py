@@ -8,7 +8,7 @@ import tempfile
 from typing import List, Sequence
 
 from native.translating import parts
-from paging.tree import MADE, TOP, NotMade, run
+from paging.tree import MADE, TOP, VERSION, NotMade, run
 
 SOURCES = TOP / "tools/native"
 PROGRAM, LIBRARY = ["words.c", "program.c"], ["library.c", "runtime.c"]
@@ -44,8 +44,7 @@ def check(compiler: str) -> None:
 def texts() -> str:
     """What the program says of itself, for C."""
     told = {"HELP": (TOP / "tools/module/help.txt").read_text()}
-    version = (TOP / "python/pespbench/VERSION").read_text().strip()
-    told["VERSION_TEXT"] = f"pespbench {version}, made of the page's module, and not proved\n"
+    told["VERSION_TEXT"] = f"pespbench {VERSION.read_text().strip()}, made of the page's module, and not proved\n"
     return "".join(f"static const char {name}[] = {json.dumps(text)};\n" for name, text in told.items())
 
 

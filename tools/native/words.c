@@ -72,6 +72,11 @@ static void help(void) {
     exit(0);
 }
 
+static void version(void) {
+    write_all(VERSION_TEXT, sizeof VERSION_TEXT - 1);
+    exit(0);
+}
+
 /* An option that has a value; whether it is one. */
 static bool take_valued(struct given *given, const char *name, const char *inside) {
     if (strcmp(name, "period") == 0) {
@@ -96,10 +101,7 @@ static bool take_plain(struct given *given, const char *name, const char *inside
     if (!is_check && !is_help && strcmp(name, "version") != 0) return false;
     if (inside != NULL) refuse("unexpected value '%s' for '--%s'", inside, name);
     if (is_help) help();
-    if (!is_check) {
-        write_all(VERSION_TEXT, sizeof VERSION_TEXT - 1);
-        exit(0);
-    }
+    if (!is_check) version();
     once(given->settings.is_check, name);
     given->settings.is_check = true;
     return true;
@@ -115,6 +117,8 @@ static void take_option(struct given *given, const char *word) {
         if (take_valued(given, name, inside) || take_plain(given, name, inside)) return;
     } else if (word[1] == 'h') {
         help();
+    } else if (word[1] == 'V') {
+        version();
     }
     refuse("unexpected argument '%s' found%s", word, "");
 }

@@ -1,9 +1,9 @@
-"""Help, and the words of the command line."""
+"""Help, the version, and the words of the command line."""
 
-from typing import Any, Dict
+from typing import Any, Dict, List
 
 from tests.file_cases import TWO, TWO_FIXED, TWO_TIMES
-from tests.harness import SOME, Suite, Words, run, unreadable
+from tests.harness import SOME, VERSION, Suite, Words, run, unreadable
 from tests.limits import GREATEST_PERIOD, LEAST_PERIOD
 from tests.replies import EMPTY_REPLIES, FIXED_REPLIES, TWO_REPLIES
 
@@ -21,11 +21,19 @@ def help_text(suite: Suite) -> None:
     suite.case("help before a missing file", ["--help", "no such file"], output=SOME)
 
 
+def version_text(suite: Suite) -> None:
+    told = f"pespbench {VERSION}\n".encode()
+    forms: List[Words] = [["--version"], ["-V"], ["-Vh"], ["--check", "-V"], ["--version", "--wrong"], ["-V", "no such file"]]
+    for words in forms:
+        suite.case(f"version by {words}", words, output=told)
+    suite.case("help before the version", ["--help", "--version"], output=SOME)
+
+
 def refused_arguments(suite: Suite) -> None:
     table: Dict[str, Words] = {
         "an unknown option": ["--wrong"],
-        "no version flag": ["--version"],
-        "no short version flag": ["-V"],
+        "a value of --version": ["--version=1"],
+        "--version beside a word that is not UTF-8": ["--version", b"\xff"],
         "two files": ["a", "b"],
         "--check twice": ["--check", "--check"],
         "--period twice": ["--period", "10", "--period", "10"],
@@ -94,4 +102,4 @@ def accepted_arguments(suite: Suite) -> None:
     suite.check("period 60 where none is given", words, output=b"tensions 1\n1 60 1\nviolations 1\nactivity 1\ncost 1\n")
 
 
-GROUPS = [help_text, refused_arguments, accepted_arguments]
+GROUPS = [help_text, version_text, refused_arguments, accepted_arguments]

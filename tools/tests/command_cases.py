@@ -26,6 +26,13 @@ CASES = [
         "domains 0 / optimum 0 0 / cost 0 / # period 10 lines 0 / tensions 0 / violations 0 / ok / optimum 0 0",
     ),
     ("two activities", 10, TWO, "optimum", BEST),
+    (
+        "a window on a tree, in milliseconds",
+        46,
+        "1; 31; 25; 61; 91; 10 / 2; 24; 31; -65; -16; 2 / 3; 22; 34; -48; -18; 2 / 4; 31; 34; -106; -57; 1000 / 5; 25; 29; 44; 87; 10 / 6; 31; 33; 54; 99; 3",
+        "window 34 11 20 / optimum",
+        "ok / optimum 0 7 / 22 13 / 24 44 / 25 40 / 29 38 / 31 25 / 33 33 / 34 11",
+    ),
     ("a fixed event narrows domains", 10, TWO, "fix 1 0 / domains", "ok / domains 2 / 1: 0 / 2: 4 5"),
     ("infeasible with full domains", 10, TWO, "span 1 3 3 / domains / optimum", f"ok / {FULL} / infeasible"),
     (

@@ -34,6 +34,7 @@ def failing_output(suite: Suite) -> None:
     table: Dict[str, Tuple[Words, Optional[bytes]]] = {
         "a check": (checked, None),
         "help": (["--help"], None),
+        "the version": (["--version"], None),
         "a check of nothing": (["--check"], None),
         "one command": ([], b"cost\n"),
         "the stored run": ([], b"add event 2\nadd event 1\nadd activity 1 1 2 3 5 2\noptimum\n"),

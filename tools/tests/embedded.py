@@ -14,7 +14,8 @@ from typing import Any, Callable, Dict, Iterator, List, Mapping, Optional, Seque
 from tests.drawn_runs import drawn_run, told_by
 from tests.examples import content, folders, words_of
 from tests.file_cases import TWO
-from tests.harness import SOME, TOP, Suite, closed_pipe, run, within
+from tests.harness import SOME, TOP, VERSION, VERSION_NUMBER, Suite, closed_pipe, run, within
+from tests.prices import prices
 from tests.searches import refused_memory, searches
 from tests.sessions import many_sessions, sessions
 
@@ -46,8 +47,8 @@ def callers(suite: Suite) -> Dict[str, List[object]]:
         return {}
     if made(suite, "answer.c", [compiler, *WARNINGS, "-o", folder / "in-c", SOURCES / "answer.c", heap, LIBRARY]):
         found["C"] = [folder / "in-c"]
-    made(suite, "moves.c", [compiler, *WARNINGS, "-o", folder / "moves", SOURCES / "moves.c", heap, LIBRARY])
-    made(suite, "search.c", [compiler, *WARNINGS, "-o", folder / "search", SOURCES / "search.c", heap, LIBRARY])
+    for name in ["moves", "search", "prices"]:
+        made(suite, f"{name}.c", [compiler, *WARNINGS, "-o", folder / name, SOURCES / f"{name}.c", heap, LIBRARY])
     many_sessions(suite, compiler, heap, LIBRARY)
     refused_memory(suite, answering(), compiler, heap, LIBRARY)
     if is_shared:
@@ -104,11 +105,13 @@ def embedded(suite: Suite) -> None:
     if shared(suite).exists():
         module = answering()
         call = module.loaded(shared(suite))
+        suite.note("its version", {"version": VERSION_NUMBER}, {"version": ctypes.CDLL(str(shared(suite))).pesp_version()})
         drawn_runs(suite, module, call)
         rooms(suite, module, call)
         periods(suite, module, call)
         sessions(suite, module, shared(suite))
         searches(suite, module, shared(suite))
+        prices(suite, module, shared(suite))
 
 
 PERIODS = ["65546", "65535", "10x", "x10", "", " 10", "10 ", "-5", "0", "1", "2", "1440", "1441", "1e1", "10.0", "+10", "++10", "+", "0010", "9" * 30]
@@ -238,7 +241,7 @@ def installed_library(suite: Suite) -> None:
         flags = [f"-I{prefix}/include", f"-L{prefix}/lib", "-lpespbench"]
         suite.note("what pkg-config tells", {"told": [flag.encode() for flag in flags]}, {"told": told["standard output"].split()})
         told = run(["pkg-config", "--modversion", "pespbench"], env={**env, "PKG_CONFIG_PATH": str(prefix / "lib/pkgconfig")})
-        suite.note("the version that it tells", {"standard output": (TOP / "python/pespbench/VERSION").read_bytes()}, told)
+        suite.note("the version that it tells", {"standard output": f"{VERSION}\n".encode()}, told)
     words = [sys.executable, "-B", "-c", "from pespbench import Bench; print(Bench.open(None, engine='library').program)"]
     paths = {"PYTHONPATH": str(prefix / "share/pespbench/python"), "PATH": "/usr/bin:/bin", "PESPBENCH": "", "PESPBENCH_LIB": ""}
     came = run(words, env={**env, **paths})

@@ -7,6 +7,10 @@ from typing import IO, Any, Callable, Dict, Iterable, List, Mapping, Optional, S
 
 TOP = pathlib.Path(__file__).resolve().parents[2]
 PROGRAM = TOP / "crates/pespbench/out/pespbench"
+VERSION = (TOP / "python/pespbench/VERSION").read_text().strip()
+# Its numbers, and the number that the library returns.
+NUMBERS = VERSION.partition("+")[0].split(".")
+VERSION_NUMBER = int("".join(f"{int(number):03}" for number in NUMBERS))
 # The most that one run of a program may take.
 SECONDS = 60
 NAMES = ["activities", "fixed", "times"]

@@ -59,8 +59,12 @@ def helping(suite: Suite) -> None:
 
 
 def helping_start(suite: Suite) -> None:
-    """tools/pespbench builds nothing for help, or for an option that the program does not have; a built program gets both."""
+    """tools/pespbench builds nothing for help, the version, or an option that the program does not have; a built program gets them."""
     tree = Tree(suite)
+    (tree.top / "python/pespbench").mkdir(parents=True)
+    (tree.top / "python/pespbench/VERSION").write_text("1.2.3\n")
+    for words in [["--version"], ["-V"], ["--period", "10", "-V"]]:
+        suite.note(f"{words} before a build", {"status": 0, "standard output": b"pespbench 1.2.3\n"}, run([tree.link, *words], env=tree.environment))
     for words in [["--help"], ["-h"], ["--period", "10", "--help"]]:
         come = run([tree.link, *words], env=tree.environment)
         suite.note(f"{words} before a build", {"status": 0, "usage": True}, {**come, "usage": b"usage: tools/pespbench" in come["standard output"]})
@@ -75,7 +79,7 @@ def helping_start(suite: Suite) -> None:
     suite.note("help while another start builds", {"status": 0, "usage": True}, {**come, "usage": b"usage: tools/pespbench" in come["standard output"]})
     tree.say("waits", False)
     first.communicate()
-    for words in [["--help"], ["-x"], ["--period", "10", "--", "-x"]]:
+    for words in [["--help"], ["--version"], ["-x"], ["--period", "10", "--", "-x"]]:
         wanted = f"ran in {suite.folder} with {' '.join(words)}\n".encode()
         suite.note(f"{words} after a build", {"standard output": wanted}, run([tree.link, *words], cwd=suite.folder, env=tree.environment))
 

@@ -1,5 +1,6 @@
 """What tools/install promises of PREFIX, of links, of who can read, and of two at once; and where the command looks for modules."""
 
+import ctypes
 import os
 import random
 import shutil
@@ -8,12 +9,11 @@ import sys
 from pathlib import Path
 from typing import Any, Dict, List, Tuple
 
-from tests.harness import NOT_READ, NOT_WRITTEN, TOP, Came, Suite, run, within
+from tests.harness import NOT_READ, NOT_WRITTEN, TOP, VERSION, VERSION_NUMBER, Came, Suite, run, within
 from tests.streams import drawn_lines
 
 INSTALL = TOP / "tools/install"
 TWO = TOP / "examples/two-trains/activities"
-VERSION = (TOP / "python/pespbench/VERSION").read_text().strip()
 ANSWER = b"optimum 4 2\n1 0\n2 4\n"
 
 
@@ -144,7 +144,9 @@ def installed_module(suite: Suite) -> None:
     is_whole(suite, "tools/install --module", prefix)
     made = prefix / "bin/pespbench"
     told = f"pespbench {VERSION}, made of the page's module, and not proved\n".encode()
-    suite.note("the version that it tells", {"status": 0, "standard output": told}, run([made, "--version"]))
+    for word in ["--version", "-V"]:
+        suite.note(f"the version by {word}", {"status": 0, "standard output": told}, run([made, word]))
+    suite.note("that of its library", {"version": VERSION_NUMBER}, {"version": ctypes.CDLL(str(prefix / "lib/libpespbench.so")).pesp_version()})
     suite.holds("pkg-config says that nothing is proved", "not proved" in (prefix / "lib/pkgconfig/pespbench.pc").read_text())
     suite.note("the command over it", {"status": 0, "standard output": ANSWER}, searched(suite, prefix))
     same_streams(suite, made)

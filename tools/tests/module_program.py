@@ -11,7 +11,7 @@ from tests.dialogue import Dialogue
 from tests.drawn_runs import drawn_run
 from tests.examples import content, folders, words_of
 from tests.file_cases import ACTIVITY_FAULTS, ACTIVITY_FORMS, EVENT_FAULTS, EVENT_FORMS, FIXED_FAULTS, TWO, TWO_TIMES
-from tests.harness import NAMES, NOT_READ, NOT_WRITTEN, TOP, Came, Suite, Words, run, within, words_for
+from tests.harness import NAMES, NOT_READ, NOT_WRITTEN, TOP, VERSION, Came, Suite, Words, run, within, words_for
 from tests.streams import drawn_lines
 
 START = TOP / "tools/pespbench"
@@ -50,9 +50,13 @@ def module_start(suite: Suite) -> None:
         suite.note(f"tools/pespbench_module: {name}", {**wanted, "standard error": error}, come)
     shut = run(["sh", "-c", 'exec "$0" <&-', MODULE])
     suite.note("standard input closed", {"status": 1, "standard error": NOT_READ}, shut)
-    with open("/dev/full", "wb") as full:
-        come = run([MODULE, "--help"], stdout=full)
-    suite.note("help on a full device", {"status": 1, "standard error": NOT_WRITTEN}, come)
+    told = f"pespbench {VERSION}, the page's module under Node, and not proved\n".encode()
+    for words in [["--version"], ["-V", "none"]]:
+        suite.note(f"the version by {words}", {"status": 0, "standard output": told, "standard error": b""}, run([MODULE, *words]))
+    for word in ["--help", "--version"]:
+        with open("/dev/full", "wb") as full:
+            come = run([MODULE, word], stdout=full)
+        suite.note(f"{word} on a full device", {"status": 1, "standard error": NOT_WRITTEN}, come)
 
 
 def module_session(suite: Suite) -> None:

@@ -9,16 +9,16 @@ from pathlib import Path
 from typing import Any, Dict, Sequence, Tuple
 
 from tests.documents import sessions
-from tests.harness import SOME, TOP, Came, Suite, run, within
+from tests.harness import NUMBERS, SOME, TOP, VERSION, VERSION_NUMBER, Came, Suite, run, within
 from tests.written import headings_of, links_of
 
 # Debian's own Python, for which its packages are.
 SYSTEM = "/usr/bin/python3"
 
 
-VERSION = (TOP / "python/pespbench/VERSION").read_text().strip()
 # Who has the version, since nothing else can tell it there; a changelog has each that there was.
-NAMING = ["python/pespbench/VERSION", "embedded/rust/Cargo.toml", "CHANGELOG.md"]
+NAMING = ["python/pespbench/VERSION", "embedded/rust/Cargo.toml", "CHANGELOG.md", "page/pespbench.html"]
+NAMING += ["crates/pesp_shell/src/version.rt", "crates/pesp_tests_shell/src/options.rt"]
 # tools/library makes it.
 LIBRARY = TOP / "crates/pesp_embedded/out/libpesp_embedded.a"
 ANSWER = ["-o", "answer", "embedded/answer.c", "embedded/heap.c", "embedded/libpesp_embedded.a"]
@@ -84,6 +84,14 @@ def one_version(suite: Suite) -> None:
     suite.note("VERSION", {"version": numbered if headings[0] == numbered else f"{numbered}+unreleased"}, {"version": VERSION})
     cargo = re.findall(r'^version = "(.*)"$', (TOP / "embedded/rust/Cargo.toml").read_text(), re.M)
     suite.note("the version for Cargo", {"version": [VERSION]}, {"version": cargo})
+    program = re.findall(r'VERSION: &str = "(.*)";$', (TOP / "crates/pesp_shell/src/version.rt").read_text(), re.M)
+    suite.note("the version of the program", {"version": [VERSION]}, {"version": program})
+    library = re.findall(r"^version = version_of (\d+) (\d+) (\d+)$", (TOP / "crates/pesp_embedded/specs/Version.antt").read_text(), re.M)
+    suite.note("the version of the library", {"version": [tuple(NUMBERS)]}, {"version": library})
+    header = re.findall(r"^#define PESP_VERSION (\d+)$", (TOP / "embedded/pespbench.h").read_text(), re.M)
+    suite.note("the version of its header", {"version": [str(VERSION_NUMBER)]}, {"version": header})
+    shown = re.findall(r'<span id="version">([^<]*)</span>', (TOP / "page/pespbench.html").read_text())
+    suite.note("the version of the page", {"version": [VERSION]}, {"version": shown})
     words = [sys.executable, "-B", "-c", "import pespbench; print(pespbench.__version__)"]
     suite.note("the version of the package", {"standard output": f"{VERSION}\n".encode()}, run(words, cwd=TOP / "python"))
     words = [sys.executable, "-B", "-m", "pespbench", "--version"]
@@ -197,7 +205,7 @@ def installed(suite: Suite, prefix: Path) -> None:
     suite.note("bash completes an option", {"standard output": b"--times\n"}, run(["bash", "-c", script]))
     for file in ["zsh/site-functions/_pespbench", "fish/vendor_completions.d/pespbench.fish"]:
         text = (prefix / "share" / file).read_text()
-        options = ["period", "fixed", "times", "check", "help"]
+        options = ["period", "fixed", "times", "check", "help", "version"]
         suite.holds(f"{file} has each option", all(f"{option}" in text for option in options))
 
 

@@ -14,7 +14,7 @@ from typing import Any, Dict, List, Union
 
 from tests.drawn_runs import Asked, drawn_run, told_by
 from tests.file_cases import TWO
-from tests.harness import TOP, Suite, within
+from tests.harness import TOP, VERSION, Suite, within
 
 sys.path.insert(0, str(TOP / "tools"))
 
@@ -27,6 +27,7 @@ INDEX = f"""<!doctype html>
 <meta http-equiv="Content-Security-Policy" content="{POLICY}">
 <!-- style: look.css -->
 <p>A <!-- comment --> stays.</p>
+<!-- version -->
 <!-- module -->
   <!-- script: parts/first.js -->
 """
@@ -36,6 +37,7 @@ MADE_OF_IT = """<!doctype html>
 p { margin: 0 }
 </style>
 <p>A <!-- comment --> stays.</p>
+Version <span id="version">NUMBER</span>.
 <script>const PESPBENCH_MODULE = "V@NE{1po";</script>
 <script>
 "use strict";
@@ -89,7 +91,7 @@ def page(suite: Suite) -> None:
     told = re.search(r'content="([^"]*)"', came)
     assert told is not None
     policy = told[1]
-    suite.note("a page", {"page": MADE_OF_IT}, {"page": came.replace(policy, "POLICY")})
+    suite.note("a page", {"page": MADE_OF_IT}, {"page": came.replace(policy, "POLICY").replace(VERSION, "NUMBER")})
     names = " ".join(f"'{name}'" for name in NAMES)
     wanted = POLICY.replace("script-src 'unsafe-inline'", f"script-src {names}")
     suite.note("its policy", {"policy": wanted}, {"policy": policy})
@@ -158,10 +160,10 @@ MODULES = {
     "script__third_js": "const number = 3;\n\nexport class Three {\n  get number() { return number; }\n}\n",
 }
 MADE_OF_MODULES = """<script data-modules=third>
-"use strict";const PESPBENCH={};PESPBENCH.third=(()=>{const number=3;class Three{get number(){return number}}return{Three}})();
+"use strict";const PESPBENCH={};PESPBENCH.third=(()=>{class Three{get number(){return 3}}return{Three}})();
 </script>
 <script data-modules=first>
-"use strict";PESPBENCH.second=(()=>{const{Three}=PESPBENCH.third;const two=()=>new Three().number-1;return{two}})();PESPBENCH.first=(()=>{const{two}=PESPBENCH.second;const{Three}=PESPBENCH.third;globalThis.told=[two(),new Three().number]})();
+"use strict";PESPBENCH.second=(()=>{const{Three}=PESPBENCH.third;return{two:()=>new Three().number-1}})(),PESPBENCH.first=(()=>{const{two}=PESPBENCH.second,{Three}=PESPBENCH.third;globalThis.told=[two(),new Three().number]})();
 </script>
 """
 

@@ -180,60 +180,6 @@ def edited_between(suite: Suite, library: Library, apart: Library) -> None:
         apart.close()
 
 
-def price_of(library: Library, event: int, time: int) -> Tuple[int, int]:
-    """State and cost at the end, by calls of twice the nodes each time."""
-    for step in range(40):
-        state, cost, *_ = library.price(event, time, 2**step)
-        if state >= OPTIMUM:
-            break
-    return state, cost
-
-
-def cost_if_fixed(library: Library, event: int, time: int) -> Tuple[int, int]:
-    """The same by the line `fix` and searches; the event is free again afterwards."""
-    library.ask(b"fix %d %d" % (event, time))
-    state, cost, *_ = steps_of(library, 100)[-1]
-    library.ask(b"unfix %d" % event)
-    return state, cost
-
-
-def prices(suite: Suite, library: Library, apart: Library) -> None:
-    """A price is the least cost with the event fixed at the time, and asking for it changes nothing."""
-    draw = random.Random(82)
-    for number in range(5):
-        rows = drawn_activities(draw)
-        for each in (library, apart):
-            each.open(60, rows_of(rows), b"", b"1; 7\n")
-        best = library.search(2**40)
-        event = draw.randrange(1, 21)
-        before = library.ask(b"dump"), library.times(), best
-        times = range(number, 60, 7)
-        wanted = {time: cost_if_fixed(apart, event, time) for time in times}
-        suite.note(f"drawn activities {number}, event {event}", {"prices": wanted}, {"prices": {time: price_of(library, event, time) for time in times}})
-        suite.note(f"drawn activities {number}: nothing changed", {"left": before}, {"left": (library.ask(b"dump"), library.times(), library.search(0))})
-        for each in (library, apart):
-            each.close()
-
-
-def priced_at_the_rims(suite: Suite, library: Library) -> None:
-    """Prices beside a window, of no event, at no time, and of a closed session."""
-    library.open(10, TWO, b"", b"")
-    library.ask(b"fix 1 0")
-    library.ask(b"window 2 4 1")
-    steps: List[Tuple[str, Callable[[], object], object]] = [
-        ("in the window", lambda: library.price(2, 4, 100), (OPTIMUM, 4, 4, DONE, 0)),
-        ("beside it", lambda: library.price(2, 5, 100), (NO_TIMETABLE, 0, 0, DONE, 0)),
-        ("beside a fixed time", lambda: library.price(1, 1, 0), (NO_TIMETABLE, 0, 0, DONE, 0)),
-        ("no such event", lambda: library.price(9, 0, 100), (7, 7, 7, 13, 2)),
-        ("no event at all", lambda: library.price(2**32 - 1, 0, 100), (7, 7, 7, 13, 2)),
-        ("beyond the period", lambda: library.price(2, 10, 100), (7, 7, 7, 13, 4)),
-    ]
-    for title, call, wanted in steps:
-        suite.note(f"prices: {title}", {"came": wanted}, {"came": call()})
-    library.close()
-    suite.note("prices: a closed session", {"came": (7, 7, 7, 10, 0)}, {"came": library.price(1, 0, 100)})
-
-
 def uses(suite: Suite, library: Library) -> None:
     """What a search leaves serves later lines and searches, and nothing of the working timetable is told."""
 
@@ -323,5 +269,3 @@ def searches(suite: Suite, module: ModuleType, path: Path) -> None:
     searches_in_steps(suite, libraries[0])
     going_on(suite, libraries[0])
     edited_between(suite, *libraries[:2])
-    prices(suite, *libraries[:2])
-    priced_at_the_rims(suite, libraries[0])

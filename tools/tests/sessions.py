@@ -49,6 +49,7 @@ class Library:
         self.loaded = library = ctypes.CDLL(str(path))
         of_told, of_session = ctypes.POINTER(module.Told), ctypes.POINTER(Session)
         part = [ctypes.c_char_p, ctypes.c_size_t]
+        priced = [ctypes.c_uint32, ctypes.c_uint16, ctypes.c_uint64, ctypes.POINTER(Found), of_told]
         parameters = {
             "pesp_open": [ctypes.c_uint16, *part, *part, *part, of_session, of_told],
             "pesp_close": [of_session],
@@ -59,7 +60,8 @@ class Library:
             "pesp_times": [of_session, ctypes.POINTER(ctypes.c_uint16), ctypes.c_size_t, of_told],
             "pesp_domain": [of_session, ctypes.c_uint32, ctypes.POINTER(ctypes.c_uint8), ctypes.c_size_t, of_told],
             "pesp_search": [of_session, ctypes.c_uint64, ctypes.POINTER(ctypes.c_uint16), ctypes.c_size_t, ctypes.POINTER(Found), of_told],
-            "pesp_price": [of_session, ctypes.c_uint32, ctypes.c_uint16, ctypes.c_uint64, ctypes.POINTER(Found), of_told],
+            "pesp_price": [of_session, *priced],
+            "pesp_price_tension": [of_session, *priced],
         }
         self.calls = {name: getattr(library, name) for name in parameters}
         for name, call in self.calls.items():
@@ -124,11 +126,16 @@ class Library:
         self.goes_on = found.goes_on
         return (found.state, found.cost, found.lower_bound, times)
 
-
     def price(self, event: int, time: int, nodes: int) -> Priced:
-        """State, cost and lower bound with the event at the time, or what was there, with status and reason."""
+        return self.price_by("pesp_price", event, time, nodes)
+
+    def price_tension(self, activity: int, tension: int, nodes: int) -> Priced:
+        return self.price_by("pesp_price_tension", activity, tension, nodes)
+
+    def price_by(self, name: str, *asked: int) -> Priced:
+        """State, cost and lower bound of a price, or what was there, with status and reason."""
         found = Found(7, 7, 7, 7)
-        self.calls["pesp_price"](self.session, event, time, nodes, found, self.told)
+        self.calls[name](self.session, *asked, found, self.told)
         self.goes_on = found.goes_on
         return (found.state, found.cost, found.lower_bound, self.told.status, self.told.reason)
 

@@ -97,8 +97,8 @@ def library_for(folder: Path, name: str, given: Sequence[Path]) -> List[Path]:
 
 
 def has_prices(library: Sequence[Path]) -> bool:
-    """Whether a library has pesp_price, which that of the page's module lacks."""
-    return any(b"pesp_price\0" in path.read_bytes() for path in library)
+    """Whether a library has the calls for prices, which that of the page's module lacks."""
+    return any(b"pesp_price_tension\0" in path.read_bytes() for path in library)
 
 
 def made_caller(folder: Path, name: str, library: Sequence[Path], more: Sequence[object] = (), title: str = "caller") -> Caller:

@@ -13,7 +13,7 @@
 struct order {
     char kind;
     unsigned slot;                 /* the session */
-    uint64_t first, second, third; /* a period; an event, a time and nodes; or nodes */
+    uint64_t first, second, third; /* a period; an event and a time, or an activity and a tension, and nodes; or nodes */
     size_t room;                   /* how many bytes or numbers there is room for */
     int refusal;                   /* of enum refusal */
     size_t lengths[4];

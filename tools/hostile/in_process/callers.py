@@ -28,6 +28,7 @@ LINE = TOP / "examples/hourly-line"
 NUMBERS: Dict[str, Tuple[List[object], bytes]] = {
     "moves": ([60, LINE / "activities", LINE / "times", 1000], b"cost 503, now 318\n"),
     "search": ([60, LINE / "activities"], b"cost 180, none costs less than 180\n"),
+    "prices": ([10, TOP / "examples/two-trains/activities", "-", 2], b"##########\n^^^^^^^^^^\n0\nat best 4, at worst 4\n"),
 }
 
 

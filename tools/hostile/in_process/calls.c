@@ -51,7 +51,10 @@ static void search(const struct order *order, struct pesp_session *session, stru
 #ifndef WITHOUT_PRICES
 static void price(const struct order *order, struct pesp_session *session, struct answer *answer) {
     struct pesp_found found = {NUMBER_BEFORE, NUMBER_BEFORE, NUMBER_BEFORE, NUMBER_BEFORE};
-    pesp_price(session, (uint32_t)order->first, (uint16_t)order->second, order->third, &found, &answer->told);
+    uint32_t number = (uint32_t)order->first;
+    uint16_t value = (uint16_t)order->second;
+    if (order->kind == 'p') pesp_price(session, number, value, order->third, &found, &answer->told);
+    else pesp_price_tension(session, number, value, order->third, &found, &answer->told);
     put_found(&found, answer);
 }
 #endif
@@ -69,7 +72,8 @@ static void dispatch(const struct order *order, struct pesp_session *session, st
     case 'd': pesp_domain(session, (uint32_t)order->first, room, order->room, &answer->told); break;
     case 's': search(order, session, answer); break;
 #ifndef WITHOUT_PRICES
-    case 'p': price(order, session, answer); break;
+    case 'p':
+    case 'q': price(order, session, answer); break;
 #endif
     case 'w': answer_run(order, answer); break;
     default: fprintf(stderr, "caller: no call %c\n", order->kind), exit(3);

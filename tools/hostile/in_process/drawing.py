@@ -64,6 +64,12 @@ class Drawing:
     def time(self) -> int:
         return self.draw.randrange(self.period) if self.draw.randrange(8) else self.draw.choice([self.period, 65_535])
 
+    def activity(self) -> int:
+        return self.draw.randint(1, 6) if self.draw.randrange(8) else self.draw.choice([0, 9, GREATEST_EVENT, GREATEST_NUMBER])
+
+    def tension(self) -> int:
+        return self.draw.randrange(2 * self.period) if self.draw.randrange(8) else 65_535
+
     def order(self, kind: str, **how: Any) -> Order:
         return Order(kind, self.slot, **how)
 
@@ -94,13 +100,13 @@ class Drawing:
         again = [self.order(orders.SEARCH, first=0, room=100)] if self.draw.randrange(3) == 0 else []
         return [search, *again, self.dump()]
 
-    def price(self) -> List[Order]:
-        """The price of an event at a time, perhaps asked for again, and then the network that it is of."""
+    def price(self, kind: str) -> List[Order]:
+        """The price of an event at a time or of an activity's tension, perhaps asked for again, and then the network that it is of."""
         if not (self.kind.has_prices and self.has_searches):
             return []
-        event, time = self.event(), self.time()
+        number, value = (self.event(), self.time()) if kind == orders.PRICE else (self.activity(), self.tension())
         nodes = [self.draw.choice(NODES) for _ in range(self.draw.choice([1, 1, 2, 3]))]
-        prices = [self.order(orders.PRICE, first=event, second=time, third=each, refusal=self.refusal()) for each in nodes]
+        prices = [self.order(kind, first=number, second=value, third=each, refusal=self.refusal()) for each in nodes]
         return [*prices, self.dump()]
 
     def more(self) -> List[Order]:
@@ -113,7 +119,7 @@ class Drawing:
             self.moves,
             self.search,
             self.search,
-            self.price,
+            lambda: self.price(self.draw.choice(orders.PRICES)),
             lambda: [self.order(orders.MOVE_SESSION)],
             lambda: [self.opening(self.period)],
             lambda: self.line(self.draw.choice(HOSTILE)),
@@ -123,14 +129,15 @@ class Drawing:
     def each_call(self) -> List[Order]:
         """Every call on a session that is not a line."""
         domain = self.order(orders.DOMAIN, first=self.event(), room=180)
-        return [self.order(orders.COST), *self.moves(), domain, *self.search(), *self.price(), self.dump()]
+        prices = [order for kind in orders.PRICES for order in self.price(kind)]
+        return [self.order(orders.COST), *self.moves(), domain, *self.search(), *prices, self.dump()]
 
     def opening(self, period: int) -> Order:
         return Order(orders.OPEN, self.slot, first=period, refusal=self.refusal(), texts=tuple(self.files))
 
     def unopened(self) -> List[Order]:
         """Uses of a session that is closed, and openings at a period that there is not."""
-        kinds = [orders.COST, orders.MOVE, orders.EVENTS, orders.TIMES, orders.DOMAIN, orders.SEARCH, *[orders.PRICE] * self.kind.has_prices]
+        kinds = [orders.COST, orders.MOVE, orders.EVENTS, orders.TIMES, orders.DOMAIN, orders.SEARCH, *orders.PRICES * self.kind.has_prices]
         drawn = [self.order(self.draw.choice(kinds), first=1, room=3) for _ in range(self.draw.randrange(3))]
         drawn += [self.order(kind) for kind in (orders.CLOSE, orders.MOVE_SESSION) if self.draw.randrange(3) == 0]
         bad = self.opening(self.draw.choice([0, 1, 1_441, 65_535]))

@@ -20,6 +20,8 @@ WRONG: Dict[int, Tuple[str, str, str]] = {
     14: ("a price is another one", "sanitizers", "the optimum is"),
     15: ("a price leaves its event at the time", "sanitizers", "wanted|the optimum is"),
     16: ("a price that is refused memory leaves its event at the time", "sanitizers", "has changed the session"),
+    17: ("a price is of another tension", "sanitizers", "the optimum is"),
+    18: ("a price leaves its activity at the tension", "sanitizers", "wanted|the optimum is"),
 }
 # Not of a library without prices.
-OF_PRICES = [14, 15, 16]
+OF_PRICES = [14, 15, 16, 17, 18]

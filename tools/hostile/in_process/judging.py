@@ -68,7 +68,7 @@ class Judged:
             return [], lambda _: is_wanted(call, (ended(orders.CLOSED), b"", before_of(order)))
         kinds = {
             orders.ASK: self.asking, orders.COST: self.cost, orders.MOVE: self.move, orders.EVENTS: self.event_list,
-            orders.TIMES: self.time_list, orders.DOMAIN: self.domain, orders.SEARCH: self.search, orders.PRICE: self.price,
+            orders.TIMES: self.time_list, orders.DOMAIN: self.domain, orders.SEARCH: self.search, **dict.fromkeys(orders.PRICES, self.price),
         }
         return kinds[order.kind](call)
 
@@ -235,7 +235,7 @@ class Judged:
             if call.order.kind == orders.ASK:
                 self.searched.append(searched_by_try(self.script, call.last.shown))
                 continue
-            if call.order.kind == orders.PRICE:
+            if call.order.kind in orders.PRICES:
                 self.searched.append(searched_by_price(self.script, call))
                 continue
             cost, bound, state, _ = call.last.numbers

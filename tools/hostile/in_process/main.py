@@ -63,7 +63,7 @@ def run_all(words: argparse.Namespace, folder: Path) -> bool:
     if "callers" in parts and not shutil.which("rustc"):
         print("tools/test_library: the caller in Rust was not tried: no rustc")
     if not making.have_prices():
-        print("tools/test_library: pesp_price was not tried: the library does not have it")
+        print("tools/test_library: the calls for prices were not tried: the library does not have them")
     print(f"{passed} passed, {failed} failed")
     return failed > 0
 

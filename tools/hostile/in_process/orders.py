@@ -4,7 +4,8 @@ import re
 from typing import Iterator, List, NamedTuple, Tuple
 
 # The letters of calls.c, and of caller.c's own orders.
-OPEN, CLOSE, ASK, COST, MOVE, EVENTS, TIMES, DOMAIN, SEARCH, PRICE, RUN = "o", "c", "a", "k", "v", "e", "t", "d", "s", "p", "w"
+OPEN, CLOSE, ASK, COST, MOVE, EVENTS, TIMES, DOMAIN, SEARCH, PRICE, TENSION, RUN = "o", "c", "a", "k", "v", "e", "t", "d", "s", "p", "q", "w"
+PRICES = [PRICE, TENSION]
 MOVE_SESSION, EXCHANGE = "m", "x"
 WITHOUT_ANSWER = [MOVE_SESSION, EXCHANGE]
 # How requests for memory are refused: not at all, alone, and with all later ones.

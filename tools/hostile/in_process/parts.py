@@ -21,7 +21,7 @@ STREAMS_AT_ONCE = 100
 ONE_OF = {"sanitizers": 1, "threads": 5, "memcheck": 25}
 # Streams in which a library has to be found wrong.
 TRIALS, STREAMS_OF_A_TRIAL = 20, 8
-WRAPPED = [f"-Wl,--wrap={name}" for name in ("pesp_ask", "pesp_search", "pesp_price")]
+WRAPPED = [f"-Wl,--wrap={name}" for name in ("pesp_ask", "pesp_search", "pesp_price", "pesp_price_tension")]
 
 
 class Task(NamedTuple):

@@ -1,10 +1,10 @@
-"""What prices told: the refusals, and what the optimum of the network is in which the event has that time."""
+"""What prices returned: the refusals, and the optimum of the network in which the event has that time, or the activity that tension."""
 
 from typing import List, Optional, Tuple
 
 from hostile.in_process import orders
 from hostile.in_process.drawing import GREATEST_EVENT
-from hostile.in_process.orders import Call
+from hostile.in_process.orders import Call, Order, Told
 from hostile.in_process.searched import NO_TIMETABLE, OPTIMUM, Searched
 from hostile.in_process.wanted import Check, before_of, ended, is_wanted
 
@@ -16,7 +16,9 @@ MORE = 999_999_998
 
 def searched_by_price(script: bytes, call: Call) -> Searched:
     cost, bound, state, _ = call.last.numbers
-    lines = PRICED % {b"more": MORE, b"time": call.order.second, b"event": call.order.first}
+    number, value = call.order.first, call.order.second
+    is_of_event = call.order.kind == orders.PRICE
+    lines = PRICED % {b"more": MORE, b"time": value, b"event": number} if is_of_event else b"span %d %d %d\n" % (number, value, value)
     return Searched(script + lines, {}, cost, bound, state=state)
 
 
@@ -25,8 +27,8 @@ class Prices:
 
     def __init__(self, period: int) -> None:
         self.period = period
-        # The event and the time of the last one, and its lower bound, where the next one goes on with it.
-        self.last: Optional[Tuple[int, int]] = None
+        # The question of the last one, and its lower bound, where the next one goes on with it.
+        self.last: Optional[Tuple[str, int, int]] = None
         self.bound = 0
 
     def forget(self) -> None:
@@ -34,19 +36,25 @@ class Prices:
         self.last = None
 
     def check_of(self, call: Call) -> Check:
-        event, time = call.order.first, call.order.second
         fault = self.fault_of_numbers(call) if call.last.status() == orders.DONE else None
 
         def judge(replies: List[bytes]) -> Optional[str]:
-            if not replies or replies[0].startswith(b"refused"):
-                refusal = ended(orders.REFUSED, place=event, reason=2)
-            elif time >= self.period:
-                refusal = ended(orders.REFUSED, reason=4)
-            else:
+            refusal = self.refusal(call.order, replies)
+            if refusal is None:
                 return fault or (None if call.last.told == ended(orders.DONE) else f"wanted {ended(orders.DONE)}")
             return is_wanted(call, (refusal, b"", before_of(call.order)))
 
-        return Check([b"domain %d" % event] if event <= GREATEST_EVENT else [], judge)
+        if call.order.kind == orders.TENSION:
+            return Check([b"dump"], judge)
+        return Check([b"domain %d" % call.order.first] if call.order.first <= GREATEST_EVENT else [], judge)
+
+    def refusal(self, order: Order, replies: List[bytes]) -> Optional[Told]:
+        """The refusal of a price, if any, by the program's replies."""
+        if order.kind == orders.TENSION:
+            return None if b"\nadd activity %d " % order.first in replies[0] else ended(orders.REFUSED, reason=6)
+        if not replies or replies[0].startswith(b"refused"):
+            return ended(orders.REFUSED, place=order.first, reason=2)
+        return ended(orders.REFUSED, reason=4) if order.second >= self.period else None
 
     def fault_of_numbers(self, call: Call) -> Optional[str]:
         """A price that ended does not go on, and one that goes on with the last one has no smaller lower bound."""
@@ -55,7 +63,7 @@ class Prices:
             return "a price tells what it never does"
         if call.order.third == 0 or state == NO_TIMETABLE:
             return None
-        priced = (call.order.first, call.order.second)
+        priced = (call.order.kind, call.order.first, call.order.second)
         # What was refused memory may have begun again.
         is_less = self.last == priced and not call.refused and bound < self.bound
         fault = f"a lower bound of {self.bound} before, and now {bound}" if is_less else None

@@ -10,7 +10,7 @@ from hostile.inputs import ends_of_replies
 
 NOTHING = (0, 0, orders.MEMORY, 0, 0)
 # Calls that tell four numbers.
-SEARCHES = [orders.SEARCH, orders.PRICE]
+SEARCHES = [orders.SEARCH, *orders.PRICES]
 # A line, whose reply to `try` may lack a timetable that was known: what is refused memory for it goes without.
 TRY = re.compile(rb"[ \t\r]*try[ \t]")
 NONE_KNOWN = b"stopped none\n"

@@ -34,7 +34,7 @@ def as_bytes(numbers: Sequence[int], width: int) -> bytes:
 
 def before_of(order: Order) -> Tuple[int, ...]:
     """The numbers of a call that does nothing."""
-    counts = {orders.COST: 1, orders.MOVE: 1, orders.SEARCH: 4, orders.PRICE: 4}
+    counts = {orders.COST: 1, orders.MOVE: 1, orders.SEARCH: 4, orders.PRICE: 4, orders.TENSION: 4}
     count = counts.get(order.kind, 0)
     return (NUMBER_BEFORE,) * count + (0,) * (4 - count)
 

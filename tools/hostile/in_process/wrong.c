@@ -17,7 +17,8 @@ void __wrap_pesp_search(struct pesp_session *session, uint64_t nodes, uint16_t *
 enum wrong {
     NOTHING, WRITES_AFTER_THE_ROOM, READS_AFTER_THE_LINE, READS_WHAT_IS_FREED, KEEPS_MEMORY, READS_WHAT_IS_NOT_SET, SHARES_A_COUNT,
     ANSWERS_ANOTHER_BYTE, TELLS_WHAT_FITS, CHANGES_WITHOUT_MEMORY, TELLS_A_GREATER_BOUND, TELLS_ANOTHER_COST, LOSES_A_TIME,
-    READS_WHAT_IT_WAS_NOT_GIVEN, TELLS_ANOTHER_PRICE, LEAVES_THE_EVENT, LEAVES_THE_EVENT_WITHOUT_MEMORY
+    READS_WHAT_IT_WAS_NOT_GIVEN, TELLS_ANOTHER_PRICE, LEAVES_THE_EVENT, LEAVES_THE_EVENT_WITHOUT_MEMORY,
+    PRICES_ANOTHER_TENSION, LEAVES_THE_TENSION
 };
 
 static enum wrong wrong(void) {
@@ -88,21 +89,31 @@ void __wrap_pesp_search(struct pesp_session *session, uint64_t nodes, uint16_t *
 #ifndef WITHOUT_PRICES
 void __real_pesp_price(struct pesp_session *session, uint32_t event, uint16_t time, uint64_t nodes, struct pesp_found *found, struct pesp_told *told);
 void __wrap_pesp_price(struct pesp_session *session, uint32_t event, uint16_t time, uint64_t nodes, struct pesp_found *found, struct pesp_told *told);
+void __real_pesp_price_tension(struct pesp_session *session, uint32_t activity, uint16_t tension, uint64_t nodes, struct pesp_found *found, struct pesp_told *told);
+void __wrap_pesp_price_tension(struct pesp_session *session, uint32_t activity, uint16_t tension, uint64_t nodes, struct pesp_found *found, struct pesp_told *told);
 
-static void leave_at(struct pesp_session *session, uint32_t event, uint16_t time) {
+static void leave(struct pesp_session *session, const char *line) {
     struct pesp_told told;
-    uint8_t byte, line[32];
-    int length = snprintf((char *)line, sizeof line, "fix %u %u", event, time);
+    uint8_t byte;
     refuse_requests(0, 0);
-    __real_pesp_ask(session, line, (size_t)length, &byte, 0, &told);
+    __real_pesp_ask(session, (const uint8_t *)line, strlen(line), &byte, 0, &told);
     refuse_requests(1, 1);
     free(watched_malloc(1));
 }
 
 void __wrap_pesp_price(struct pesp_session *session, uint32_t event, uint16_t time, uint64_t nodes, struct pesp_found *found, struct pesp_told *told) {
     __real_pesp_price(session, event, time, nodes, found, told);
+    char line[32];
+    snprintf(line, sizeof line, "fix %u %u", event, time);
     if (wrong() == TELLS_ANOTHER_PRICE && told->status == PESP_DONE && found->state == PESP_OPTIMUM) found->cost += 1;
-    if (wrong() == LEAVES_THE_EVENT && told->status == PESP_DONE) leave_at(session, event, time);
-    if (wrong() == LEAVES_THE_EVENT_WITHOUT_MEMORY && told->status == PESP_MEMORY) leave_at(session, event, time);
+    if (wrong() == LEAVES_THE_EVENT && told->status == PESP_DONE) leave(session, line);
+    if (wrong() == LEAVES_THE_EVENT_WITHOUT_MEMORY && told->status == PESP_MEMORY) leave(session, line);
+}
+
+void __wrap_pesp_price_tension(struct pesp_session *session, uint32_t activity, uint16_t tension, uint64_t nodes, struct pesp_found *found, struct pesp_told *told) {
+    __real_pesp_price_tension(session, activity, (uint16_t)(tension + (wrong() == PRICES_ANOTHER_TENSION)), nodes, found, told);
+    char line[32];
+    snprintf(line, sizeof line, "span %u %u %u", activity, tension, tension);
+    if (wrong() == LEAVES_THE_TENSION && told->status == PESP_DONE) leave(session, line);
 }
 #endif
