@@ -1,4 +1,4 @@
-// What minutes cost, as far as that is known, of the network that is shown. A Worker of its own works it out, beside whatever else is
+// What minutes cost, as far as that is known, of the network that is shown. Workers of their own work it out, beside whatever else is
 // done, until the next step.
 
 import { display } from '../session/display.js';
@@ -9,8 +9,11 @@ import { soleWorker } from '../base/workers.js';
 // Of networks by their marks, of each question by its key the prices by minute; of the last networks alone, with so many times.
 const known = new Map(), MOST_TIMES = 20000000, NONE = new Map();
 
+// One is left to the page of the processors, and four are enough; each worker is asked for so many minutes at once.
+const CREW = Math.min(4, Math.max(1, (navigator.hardwareConcurrency || 2) - 1)), PIECE = 4;
+
 // What is to be known, in this order.
-const worker = soleWorker();
+const crew = Array.from({ length: CREW }, soleWorker);
 let wanted = [], hear = () => {};
 
 export const hearPrices = listener => { hear = listener; };
@@ -45,11 +48,8 @@ export const carryPrices = (question, act) => {
   hear();
 };
 
-const answered = ({ mark, question }, prices) => ({ price, fault }) => {
-  if (price) {
-    prices.set(price.minute, price);
-    keep(mark, question, prices);
-  }
+const answered = ({ mark, question }) => ({ price, fault }) => {
+  if (price) keep(mark, question, new Map((known.get(mark) || NONE).get(keyOf(question)) || NONE).set(price.minute, price));
   if (fault) {
     say(fault, true);
     wanted = [];
@@ -58,23 +58,38 @@ const answered = ({ mark, question }, prices) => ({ price, fault }) => {
   hear();
 };
 
-const leftOf = question => pricedMinutes(question).filter(minute => !pricesOf(question).has(minute));
+const isOf = ({ mark, question }, other) => mark === markNow() && keyOf(question) === keyOf(other);
 
-const askNext = () => {
-  const question = wanted.find(each => leftOf(each).length), mark = markNow(), asked = worker.of();
-  if (!wanted.length) return worker.end();
-  if (!question) return worker.leave();
-  if (asked && asked.mark === mark && keyOf(asked.question) === keyOf(question)) return null;
-  const next = { kind: 'prices', mark, ...present(), question, minutes: leftOf(question), events: display.view.network.events };
-  return worker.ask(next, answered(next, new Map(pricesOf(question))));
+const askedNow = () => crew.map(worker => worker.of()).filter(Boolean);
+
+// The minutes of a question that are neither known nor asked for.
+const leftOf = question => {
+  const asked = askedNow().filter(each => isOf(each, question)).flatMap(({ minutes }) => minutes), prices = pricesOf(question);
+  return pricedMinutes(question).filter(minute => !prices.has(minute) && !asked.includes(minute));
+};
+
+const askOne = worker => {
+  const question = wanted.find(each => leftOf(each).length);
+  if (!question) return;
+  const next = { kind: 'prices', mark: markNow(), ...present(), question, minutes: leftOf(question).slice(0, PIECE), events: display.view.network.events };
+  worker.ask(next, answered(next));
+};
+
+const askNext = (asked = crew) => {
+  if (!wanted.length) crew.forEach(({ end }) => end());
+  else asked.filter(worker => !worker.of()).forEach(askOne);
 };
 
 // Works out what some questions ask, one after another, in the place of those before. Each is of an event, with its window, or of an
 // activity, with its span and weight. While something is dragged nothing else is asked.
 export const wantPrices = questions => {
+  const [first] = questions;
   wanted = questions;
-  if (!display.view.isTried) askNext();
+  if (display.view.isTried) return;
+  for (const worker of crew) if (worker.of() && !(first && isOf(worker.of(), first))) worker.leave();
+  // The others start once the first one has answered, so as not to delay it.
+  askNext(crew.slice(0, 1));
 };
 
 // Whether more comes.
-export const isPricing = () => worker.of() !== null;
+export const isPricing = () => askedNow().length > 0;

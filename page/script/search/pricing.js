@@ -7,6 +7,8 @@ import { does } from '../base/running.js';
 
 // No minute is searched for longer, in milliseconds; the first step of a search has so many nodes, and takes about so long.
 const MOST = 1500, FIRST_NODES = 1000, STEP = 100;
+// What is posted is heard so many milliseconds later at most: browsers let 4 pass each time, as long as a price may take.
+const UNHEARD = 25;
 
 const OF = {
   event: ({ number, window }, minute) => ({
@@ -39,6 +41,7 @@ export const untilSure = async (session, events, { isLeft, hear, tell = found =>
 
 // Tells the price of each of some minutes, one after another, until something else is asked.
 export const tellPrices = async (session, { question, minutes, events }, tell, { isLeft, hear }) => {
+  let heard = performance.now();
   for (const minute of minutes) {
     const { line, back, less } = OF[question.of](question, minute);
     does(session, [line]);
@@ -49,7 +52,9 @@ export const tellPrices = async (session, { question, minutes, events }, tell, {
     } finally {
       does(session, [back]);
     }
+    if (performance.now() - heard < UNHEARD) continue;
     await hear();
+    heard = performance.now();
     if (isLeft()) return;
   }
   tell({ isDone: true });
