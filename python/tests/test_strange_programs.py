@@ -107,7 +107,7 @@ class Given(Case):
         until = time.monotonic() + SOON
         while time.monotonic() < until:
             try:
-                state = open(f"/proc/{process}/stat").read().rpartition(")")[2].split()[0]
+                state = pathlib.Path(f"/proc/{process}/stat").read_text().rpartition(")")[2].split()[0]
             except OSError:
                 return True
             if state in "ZX":
