@@ -58,7 +58,8 @@ static int64_t change_of(struct pesp_session *session, unsigned event, unsigned 
 }
 
 int main(int count, char **words) {
-    if (count != 5) {
+    /* A greater period does not fit in 16 bits. */
+    if (count != 5 || strtoul(words[1], NULL, 10) > 1440) {
         fprintf(stderr, "usage: moves PERIOD ACTIVITIES TIMES MOVES\n");
         return 2;
     }

@@ -83,7 +83,8 @@ static void draw(const struct profile *profile) {
 }
 
 int main(int count, char **words) {
-    if (count != 5) {
+    /* A greater period does not fit in 16 bits. */
+    if (count != 5 || strtoul(words[1], NULL, 10) > 1440) {
         fprintf(stderr, "usage: prices PERIOD ACTIVITIES FIXED EVENT\n");
         return 2;
     }

@@ -15,7 +15,8 @@ enum { NODES = 1000 };
 static uint8_t file[1 << 26];
 
 int main(int count, char **words) {
-    FILE *activities = count == 3 ? fopen(words[2], "rb") : NULL;
+    /* A greater period does not fit in 16 bits. */
+    FILE *activities = count == 3 && strtoul(words[1], NULL, 10) <= 1440 ? fopen(words[2], "rb") : NULL;
     if (activities == NULL) {
         fprintf(stderr, "usage: search PERIOD ACTIVITIES\n");
         return 2;

@@ -47,8 +47,10 @@ def callers(suite: Suite) -> Dict[str, List[object]]:
         return {}
     if made(suite, "answer.c", [compiler, *WARNINGS, "-o", folder / "in-c", SOURCES / "answer.c", heap, LIBRARY]):
         found["C"] = [folder / "in-c"]
-    for name in ["moves", "search", "prices"]:
-        made(suite, f"{name}.c", [compiler, *WARNINGS, "-o", folder / name, SOURCES / f"{name}.c", heap, LIBRARY])
+    for name, more in [("moves", 2), ("search", 0), ("prices", 2)]:
+        if made(suite, f"{name}.c", [compiler, *WARNINGS, "-o", folder / name, SOURCES / f"{name}.c", heap, LIBRARY]):
+            came = run([folder / name, "65546", TOP / "examples/two-trains/activities", *["1"] * more])
+            suite.note(f"{name} of a period that does not fit", {"status": 2, "standard output": b""}, came)
     many_sessions(suite, compiler, heap, LIBRARY)
     refused_memory(suite, answering(), compiler, heap, LIBRARY)
     if is_shared:
