@@ -13,8 +13,12 @@ import { doStep } from '../session/session.js';
 import { rangeShown } from '../forms/spans.js';
 import { trainAt } from '../session/trains.js';
 
-// An event of the train and the activities that were asked for; the minute that is looked at in a picture; and the frame that waits.
-let ofTrain = null, activities = new Set(), looked = { key: '', minute: null }, frame = 0;
+// While prices come, pictures are drawn so many milliseconds apart: drawing takes longer than a price.
+const APART = 100;
+
+// An event of the train and the activities that were asked for; the minute that is looked at in a picture; the frame and the timer that
+// wait; and when the pictures were drawn.
+let ofTrain = null, activities = new Set(), looked = { key: '', minute: null }, frame = 0, timer = 0, drawnAt = -APART;
 
 const eventQuestion = event => ({ of: 'event', number: event, window: display.view.network.windows.get(event) || null });
 
@@ -143,7 +147,7 @@ const drawChosen = (view, event) => {
 
 const drawAll = () => {
   const { view, chosen } = display;
-  frame = 0;
+  [frame, drawnAt] = [0, performance.now()];
   if (!view || !view.domains.has(chosen)) return;
   find('prices-of-train').hidden = !isOn() || !trainAt(chosen);
   find('prices').classList.toggle('busy', isPricing());
@@ -154,6 +158,13 @@ const drawAll = () => {
 
 const drawSoon = () => {
   frame = frame || requestAnimationFrame(drawAll);
+};
+
+const drawPriced = () => {
+  timer = timer || setTimeout(() => {
+    timer = 0;
+    drawSoon();
+  }, drawnAt + APART - performance.now());
 };
 
 const again = () => {
@@ -188,7 +199,7 @@ export const costingPanel = {
 };
 
 export const startCosting = () => {
-  hearPrices(drawSoon);
+  hearPrices(drawPriced);
   find('activities').addEventListener('click', event => {
     const button = event.target.closest('[data-price]');
     if (!button) return;

@@ -10,7 +10,7 @@ import { soleWorker } from '../base/workers.js';
 const known = new Map(), MOST_TIMES = 20000000, NONE = new Map();
 
 // One is left to the page of the processors, and four are enough; each worker is asked for so many minutes at once.
-const CREW = Math.min(4, Math.max(1, (navigator.hardwareConcurrency || 2) - 1)), PIECE = 4;
+const CREW = Math.min(4, Math.max(1, (navigator.hardwareConcurrency || 2) - 1)), PIECE = 6;
 
 // What is to be known, in this order.
 const crew = Array.from({ length: CREW }, soleWorker);
