@@ -5,7 +5,7 @@ from __future__ import annotations
 from dataclasses import dataclass, field
 from typing import TYPE_CHECKING, List, Mapping, Optional, Set, Union
 
-from pespbench.answers import Infeasible, Optimum
+from pespbench.answers import Infeasible
 from pespbench.network import Activity, Network
 from pespbench.transport import Reached, Transport
 
@@ -56,11 +56,13 @@ def price_of(value: int, reached: Reached, constant: int, cap: Optional[int] = N
     found, bound = reached.found, reached.lower_bound
     cost = None if found.cost is None else found.cost + constant
     bound = cost if found.is_proved else None if bound is None else bound + constant
+    # The least cost is often known before the first timetable of that cost.
+    is_least = cost is not None and cost == bound
     if cap is None:
-        return Price(value, cost, bound, found.is_proved, found.times)
+        return Price(value, cost, bound, found.is_proved or is_least, found.times)
     # Above the cap there may be cheaper ones than it found.
     bound = cap + 1 if isinstance(found, Infeasible) else None if bound is None else min(bound, cap + 1)
-    return Price(value, cost, bound, isinstance(found, Optimum) and cost == bound, found.times)
+    return Price(value, cost, bound, cost is not None and cost == bound, found.times)
 
 
 def cuts(network: Network, cap: int) -> List[str]:

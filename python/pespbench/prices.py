@@ -3,7 +3,7 @@
 from __future__ import annotations
 
 import time as clock
-from typing import TYPE_CHECKING, Callable, Dict, Iterator, List, Mapping, Optional, Set
+from typing import TYPE_CHECKING, Callable, Dict, Iterator, List, Mapping, Optional, Set, Tuple
 
 from pespbench.commands import MOST_NODES
 from pespbench.price import Price, Question, cuts, price_of
@@ -15,6 +15,8 @@ if TYPE_CHECKING:
 
 # What is undecided after its turn gets so many times the nodes in the next round, so at most a third of all is repeated.
 GROWTH = 4
+# A search by a call has so many nodes at first, which are often enough for the least cost.
+FEW_NODES = 2
 # What is called with each Price.
 Watcher = Callable[[Price], object]
 
@@ -32,7 +34,9 @@ class Prices:
         self, bench: "Questions", question: Question, seconds: float, nodes: int, within: Optional[int], watch: Optional[Watcher]
     ) -> None:
         """Prices with so many nodes in each turn of the first round, and of interest up to a cost, or all."""
-        self._bench, self._question, self._nodes, self._within, self._watch = bench, question, nodes, within, watch
+        self._bench, self._question, self._within, self._watch = bench, question, within, watch
+        # The nodes of a turn's searches by a call; a turn by lines has one search, with the last of these.
+        self._steps: Tuple[int, ...] = (FEW_NODES, nodes)
         self._network = bench.network.copy()
         self._seconds, self._until = seconds, clock.monotonic() + seconds
         # A turn is started if more time is left than the longest of the last round took.
@@ -92,7 +96,7 @@ class Prices:
             raise ValueError(f"no timetable is known with {value}")
         if self._bench.network != self._network:
             raise ValueError("the network is another one than when its prices were asked")
-        nodes, until = self._nodes, clock.monotonic() + MOST_SECONDS
+        nodes, until = self._steps[-1], clock.monotonic() + MOST_SECONDS
         while not price.times:
             found = price_of(value, self._by_lines(value, [], nodes, until), self._question.constant(value))
             nodes = min(GROWTH * nodes, MOST_NODES)
@@ -150,17 +154,25 @@ class Prices:
         left = [value for value in self._question.values(self._network) if self._is_open(value)]
         known = self.known
         self._turns = sorted(left, key=lambda value: known[value].rank() if value in known else float("inf"))
-        self._nodes = min(GROWTH * self._nodes, MOST_NODES)
+        self._steps = (min(GROWTH * self._steps[-1], MOST_NODES),)
         self._wanted, self._longest = self._longest, 0.0
 
     def _asked(self, value: int) -> Price:
         """What a turn comes to."""
-        question, constant, nodes, until = self._question, self._question.constant(value), self._nodes, self._until
-        residue = value % self._network.period
-        reached = self._bench._session.by_call(lambda transport: question.price(transport, residue, nodes, until))
-        if reached is not None:
-            return price_of(value, reached, constant)
-        return price_of(value, self._by_lines(value, self._cuts, nodes, until), constant, self._within)
+        constant = self._question.constant(value)
+        for nodes in self._steps:
+            reached = self._by_call(value % self._network.period, nodes)
+            if reached is None:
+                return price_of(value, self._by_lines(value, self._cuts, self._steps[-1], self._until), constant, self._within)
+            price = price_of(value, reached, constant)
+            if price.is_proved:
+                break
+        return price
+
+    def _by_call(self, residue: int, nodes: int) -> Optional[Reached]:
+        """What a search with a residue comes to, if the engine has a call for it. Raises OutOfTime."""
+        question, until = self._question, self._until
+        return self._bench._session.by_call(lambda transport: question.price(transport, residue, nodes, until))
 
     def _by_lines(self, value: int, edits: List[str], nodes: int, until: float) -> Reached:
         """What a search comes to with edits and a value. Raises OutOfTime."""
