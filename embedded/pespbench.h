@@ -183,8 +183,8 @@ void pesp_search(struct pesp_session *session, uint64_t nodes, uint16_t *out, si
 
 /* What the best timetable costs with the event at the time: what pesp_search returns after the line `fix`, but nothing of the
  * session changes, and at a time outside of the event's window no timetable meets everything. Call with more nodes until the
- * state is PESP_OPTIMUM or PESP_NO_TIMETABLE; a call resumes the last one of the same question, if `goes_on` was 1. Prices and
- * pesp_search do not affect each other (not proved). The library of `tools/install --module` has neither call for prices.
+ * state is PESP_OPTIMUM or PESP_NO_TIMETABLE, or the cost equals the lower bound and so is the least; a call resumes the last
+ * one of the same question, if `goes_on` was 1. Prices and pesp_search do not affect each other (not proved).
  *
  * nodes: as in pesp_search.
  * found: the cost, the lower bound and the state, if `told->status` is PESP_DONE, and otherwise unchanged. PESP_CLOSED;

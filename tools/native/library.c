@@ -226,3 +226,21 @@ EXPORTED void pesp_search(struct pesp_session *session, uint64_t nodes, uint16_t
     *told = put(bench, out, out_length, sizeof *out);
     if (told->status == PESP_DONE) memcpy(found, at(bench, bench->number), sizeof *found);
 }
+
+EXPORTED void pesp_price(struct pesp_session *session, uint32_t event, uint16_t time, uint64_t nodes, struct pesp_found *found,
+                         struct pesp_told *told) {
+    struct bench *bench = bench_of(session, told);
+    if (bench == NULL) return;
+    Z_moduleZ_pesp_price(&bench->module, bench->session, event, time, nodes, bench->number, bench->told);
+    *told = told_by(bench);
+    if (told->status == PESP_DONE) memcpy(found, at(bench, bench->number), sizeof *found);
+}
+
+EXPORTED void pesp_price_tension(struct pesp_session *session, uint32_t activity, uint16_t tension, uint64_t nodes,
+                                 struct pesp_found *found, struct pesp_told *told) {
+    struct bench *bench = bench_of(session, told);
+    if (bench == NULL) return;
+    Z_moduleZ_pesp_price_tension(&bench->module, bench->session, activity, tension, nodes, bench->number, bench->told);
+    *told = told_by(bench);
+    if (told->status == PESP_DONE) memcpy(found, at(bench, bench->number), sizeof *found);
+}

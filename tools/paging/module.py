@@ -19,7 +19,7 @@ TARGET = "wasm64-unknown-unknown"
 LAYOUT = "e-m:e-p:64:64-p10:8:8-p20:8:8-i64:64-i128:128-n32:64-S128-ni:1:10:20"
 CPU = "lime1"
 EXPORTS = ["pesp_answer", "pesp_open", "pesp_close", "pesp_ask", "pesp_cost"]
-EXPORTS += ["pesp_try_move", "pesp_events", "pesp_times", "pesp_domain", "pesp_search"]
+EXPORTS += ["pesp_try_move", "pesp_events", "pesp_times", "pesp_domain", "pesp_search", "pesp_price", "pesp_price_tension"]
 STACK = 1024 * 1024
 
 # As rattle calls clang, but for what is of x86 alone, and at -Os, which makes the module a twentieth smaller than -O2 and takes
