@@ -9,8 +9,8 @@
 #include <stdlib.h>
 #include <string.h>
 
-/* The nodes of the first call, often enough for the least cost, and of the next one; the height of the picture, in characters; the longest file, and the longest period. */
-enum { FEW = 2, NODES = 1000, HEIGHT = 8, LONGEST_FILE = 1 << 26, LONGEST_PERIOD = 1440 };
+/* The nodes of the first call, often enough for the least cost; the height of the picture, in characters; the longest file, and the longest period. */
+enum { NODES = 10, HEIGHT = 8, LONGEST_FILE = 1 << 26, LONGEST_PERIOD = 1440 };
 
 /* The prices of all minutes, and the least and the greatest cost. */
 struct profile {
@@ -36,16 +36,14 @@ static size_t read_file(const char *path, uint8_t *bytes) {
     return length;
 }
 
-/* Each call resumes the one before it; one that restarts has twice the nodes. A cost that equals the lower bound is the least. */
+/* Each call has twice the nodes of the one before it, which it resumes. A cost that equals the lower bound is the least. */
 static struct pesp_found price_of(struct pesp_session *session, unsigned event, unsigned time) {
     struct pesp_found found = {0, 0, PESP_NOTHING_YET, 0};
-    for (uint64_t nodes = FEW; found.state < PESP_OPTIMUM;) {
+    for (uint64_t nodes = NODES; found.state < PESP_OPTIMUM; nodes *= 2) {
         struct pesp_told told;
         pesp_price(session, event, (uint16_t)time, nodes, &found, &told);
         if (told.status != PESP_DONE) fail("no price", &told);
         if (found.state == PESP_BEST_SO_FAR && found.cost == found.lower_bound) found.state = PESP_OPTIMUM;
-        if (nodes < NODES) nodes = NODES;
-        else if (!found.goes_on) nodes *= 2;
     }
     return found;
 }

@@ -3,7 +3,7 @@
 from __future__ import annotations
 
 import time as clock
-from typing import TYPE_CHECKING, Callable, Dict, Iterator, List, Mapping, Optional, Set, Tuple
+from typing import TYPE_CHECKING, Callable, Dict, Iterator, List, Mapping, Optional, Set
 
 from pespbench.commands import MOST_NODES
 from pespbench.price import Price, Question, cuts, price_of
@@ -15,10 +15,18 @@ if TYPE_CHECKING:
 
 # What is undecided after its turn gets so many times the nodes in the next round, so at most a third of all is repeated.
 GROWTH = 4
-# A search by a call has so many nodes at first, which are often enough for the least cost.
-FEW_NODES = 2
+# A search by a call has so many nodes at first, often enough for the least cost, and then twice as many each time.
+FEW_NODES = 10
 # What is called with each Price.
 Watcher = Callable[[Price], object]
+
+
+def steps_to(nodes: int) -> List[int]:
+    """The nodes of the searches of a turn, the last of so many."""
+    steps = [FEW_NODES]
+    while 2 * steps[-1] < nodes:
+        steps.append(2 * steps[-1])
+    return [*steps, nodes] if steps[-1] < nodes else [nodes]
 
 
 class Prices:
@@ -36,7 +44,7 @@ class Prices:
         """Prices with so many nodes in each turn of the first round, and of interest up to a cost, or all."""
         self._bench, self._question, self._within, self._watch = bench, question, within, watch
         # The nodes of a turn's searches by a call; a turn by lines has one search, with the last of these.
-        self._steps: Tuple[int, ...] = (FEW_NODES, nodes)
+        self._steps = steps_to(nodes)
         self._network = bench.network.copy()
         self._seconds, self._until = seconds, clock.monotonic() + seconds
         # A turn is started if more time is left than the longest of the last round took.
@@ -154,7 +162,7 @@ class Prices:
         left = [value for value in self._question.values(self._network) if self._is_open(value)]
         known = self.known
         self._turns = sorted(left, key=lambda value: known[value].rank() if value in known else float("inf"))
-        self._steps = (min(GROWTH * self._steps[-1], MOST_NODES),)
+        self._steps = [min(GROWTH * self._steps[-1], MOST_NODES)]
         self._wanted, self._longest = self._longest, 0.0
 
     def _asked(self, value: int) -> Price:

@@ -12,7 +12,7 @@ from unittest import mock
 
 from pespbench import Activity, Bench, Engine, Fault, Infeasible, Network, Optimum, Price, Refused, Stopped, Violations, all_prices
 from pespbench.faults import WrongWords
-from pespbench.prices import Prices
+from pespbench.prices import Prices, steps_to
 from tests.common import PATIENCE, SOON, Case, Whole, drawn_script, over_both
 from tests.stand_in_library import StandIn, usual
 from tests.test_progress import interrupt_when
@@ -255,7 +255,7 @@ class OverPipes(Case):
 class ByCall(Case):
     """Over a library that has the calls for prices, of a stand-in."""
 
-    STATES = {2: (0, 0, 2), 1_000: (0, 0, 3), 4_000: (1, 8, 4), 16_000: (2, 7, 7)}
+    STATES = {**dict.fromkeys(steps_to(1_000), (0, 0, 3)), 4_000: (1, 8, 4), 16_000: (2, 7, 7)}
 
     def opened(self, **missing: Any) -> Bench:
         def price(number: int, residue: int, nodes: int) -> Tuple[int, int, int]:
@@ -280,7 +280,7 @@ class ByCall(Case):
         prices = bench.prices(event=1)
         told = [(each.value, each.cost, each.lower_bound, each.is_proved) for each in prices if each.value in (3, 4)]
         self.assertEqual(told, [(3, None, 3, False), (4, None, None, True), (3, 8, 4, False), (3, 7, 7, True)])
-        asked = [b"domain 1", *(b"pesp_price 1 " + each for each in (b"3 2", b"3 1000", b"4 2", b"3 4000", b"3 16000"))]
+        asked = [b"domain 1", *(b"pesp_price 1 3 %d" % nodes for nodes in steps_to(1_000)), b"pesp_price 1 4 10", b"pesp_price 1 3 4000", b"pesp_price 1 3 16000"]
         self.assertEqual((list(self.library.lines), prices.known[3].times), (asked, {}))
         self.assertRaises(ValueError, bench.take, prices.known[3])
         self.assertEqual((prices.timetable(3), bench.journal), ({1: 3}, ["add event 1"]))
@@ -290,7 +290,7 @@ class ByCall(Case):
     def test_the_least_cost(self) -> None:
         """A cost that equals its bound is the least, if not yet that of an optimum."""
         bench = self.opened()
-        with mock.patch.object(self, "STATES", {2: (1, 7, 7)}):
+        with mock.patch.object(self, "STATES", {10: (1, 7, 7)}):
             prices = bench.prices(event=1)
             self.assertEqual((prices.found()[3], prices.is_ended, b"pesp_price 1 3 1000" in self.library.lines), (Price(3, 7, 7, True), True, False))
 
@@ -301,8 +301,8 @@ class ByCall(Case):
         del self.library.lines[:]
         found = bench.prices(activity=2).found()
         self.assertEqual({value: price.cost for value, price in found.items()}, {**dict.fromkeys(range(8, 18)), 9: 9, 10: 11, 11: 13})
-        turns = [((2, 1_000), 9), ((2, 1_000), 0), ((2, 1_000), 1), *(((nodes,), residue) for nodes in (4_000, 16_000) for residue in (9, 0, 1))]
-        asked = [b"pesp_price_tension 2 %d %d" % (residue, nodes) for steps, residue in turns for nodes in steps]
+        rounds = (steps_to(1_000), [4_000], [16_000])
+        asked = [b"pesp_price_tension 2 %d %d" % (residue, nodes) for steps in rounds for residue in (9, 0, 1) for nodes in steps]
         self.assertEqual((list(self.library.lines), bench.journal[1:]), ([b"domain 1"] * 2 + asked, ["add activity 2 1 1 8 25 2"]))
 
     def test_a_library_without_tensions(self) -> None:

@@ -15,7 +15,7 @@ from tests.drawn_runs import drawn_run, told_by
 from tests.examples import content, folders, words_of
 from tests.file_cases import TWO
 from tests.harness import SOME, TOP, VERSION, VERSION_NUMBER, Suite, closed_pipe, run, within
-from tests.prices import prices
+from tests.prices import draws_prices, prices
 from tests.searches import refused_memory, searches
 from tests.sessions import many_sessions, sessions
 
@@ -114,6 +114,7 @@ def embedded(suite: Suite) -> None:
         sessions(suite, module, shared(suite))
         searches(suite, module, shared(suite))
         prices(suite, module, shared(suite))
+        draws_prices(suite, "a picture of prices", suite.folder / "prices")
 
 
 PERIODS = ["65546", "65535", "10x", "x10", "", " 10", "10 ", "-5", "0", "1", "2", "1440", "1441", "1e1", "10.0", "+10", "++10", "+", "0010", "9" * 30]

@@ -10,6 +10,7 @@ from pathlib import Path
 from typing import Any, Dict, List, Tuple
 
 from tests.harness import NOT_READ, NOT_WRITTEN, TOP, VERSION, VERSION_NUMBER, Came, Suite, run, within
+from tests.prices import draws_prices
 from tests.streams import drawn_lines
 
 INSTALL = TOP / "tools/install"
@@ -187,10 +188,13 @@ def callers_of_module(suite: Suite, prefix: Path) -> None:
     folder = TOP / "examples/two-trains"
     links: List[Tuple[str, List[object]]] = [("shared", [f"-L{prefix / 'lib'}", "-lpespbench"]), ("static", [prefix / "lib/libpespbench.a"])]
     for title, link in links:
-        made = run(["gcc", "-O1", f"-I{prefix / 'include'}", "-o", suite.folder / title, TOP / "embedded/moves.c", *link])
-        suite.note(f"moves.c over the {title} library", {"status": 0, "standard error": b""}, made)
-        came = run([suite.folder / title, "10", folder / "activities", folder / "times", "1000"], env={"LD_LIBRARY_PATH": str(prefix / "lib")})
+        libraries = {"LD_LIBRARY_PATH": str(prefix / "lib")}
+        for name in ["moves", "prices"]:
+            made = run(["gcc", "-O1", f"-I{prefix / 'include'}", "-o", suite.folder / f"{name}-{title}", TOP / f"embedded/{name}.c", *link])
+            suite.note(f"{name}.c over the {title} library", {"status": 0, "standard error": b""}, made)
+        came = run([suite.folder / f"moves-{title}", "10", folder / "activities", folder / "times", "1000"], env=libraries)
         suite.note(f"moves over the {title} library", {"status": 0, "standard output": b"cost 3, now 3\n"}, came)
+        draws_prices(suite, f"prices over the {title} library", suite.folder / f"prices-{title}", env=libraries)
     script = "from pespbench import Bench; b = Bench.open('activities', period=10, engine='library'); print(b.search(9).found().cost, b.adopt().cost, b.cost())"
     paths = {"PYTHONPATH": str(prefix / "share/pespbench/python"), "PATH": os.environ["PATH"], "PYTHONDONTWRITEBYTECODE": "1"}
     came = run([sys.executable, "-c", script], cwd=folder, env=paths)

@@ -3,24 +3,28 @@
 import random
 from pathlib import Path
 from types import ModuleType
-from typing import Callable, Dict, List, Sequence, Tuple
+from typing import Any, Callable, Dict, List, Sequence, Tuple
 
 from tests.file_cases import TWO
-from tests.harness import NAMES, Suite, rows_of, run
+from tests.harness import NAMES, TOP, Suite, rows_of, run
 from tests.rules import Row
 from tests.searches import NO_TIMETABLE, OPTIMUM, drawn_activities
 from tests.sessions import CLOSED, DONE, REFUSED, Library, Priced
 
 FIXED = b"1; 7\n"
+# Of the second train, which fits at two minutes.
+PICTURE = b"     #\n" * 7 + b"----##----\n    ^\n0\nat best 4, at worst 5\n"
 
 
 def price_of(price: Callable[[int, int, int], Priced], number: int, value: int) -> Tuple[int, int]:
-    """State and cost at the end, by calls of twice the nodes each time."""
+    """State and cost at the end, by calls of twice the nodes each time; no cost if another one equaled the lower bound before."""
+    least = []
     for step in range(40):
-        state, cost, *_ = price(number, value, 2**step)
+        state, cost, bound, *_ = price(number, value, 2**step)
+        least += [cost] if state and cost == bound else []
         if state >= OPTIMUM:
             break
-    return state, cost
+    return state, cost if set(least) <= {cost} else -1
 
 
 def least_costs(suite: Suite, rows: List[Row], edits: Sequence[Tuple[str, str]]) -> List[Tuple[int, int]]:
@@ -79,6 +83,12 @@ def prices_at_the_rims(suite: Suite, library: Library) -> None:
     }
     for title, (call, wanted) in steps.items():
         suite.note(f"prices: {title}", {"came": wanted}, {"came": call()})
+
+
+def draws_prices(suite: Suite, title: str, command: Path, **how: Any) -> None:
+    """What embedded/prices.c draws, as a command."""
+    came = run([command, "10", TOP / "examples/two-trains/activities", suite.file("at-0", b"1; 0\n"), "2"], **how)
+    suite.note(title, {"status": 0, "standard output": PICTURE}, came)
 
 
 def prices(suite: Suite, module: ModuleType, path: Path) -> None:

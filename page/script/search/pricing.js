@@ -7,7 +7,7 @@ import { does } from '../base/running.js';
 
 // No minute is searched for longer, in milliseconds; the first step of a search has so many nodes, and takes about so long. Fewer are often
 // enough for a price.
-const MOST = 1500, FIRST_NODES = 1000, STEP = 100, FEW_NODES = 2;
+const MOST = 1500, FIRST_NODES = 1000, STEP = 100, FEW_NODES = 10;
 // What is posted is heard so many milliseconds later at most: browsers let 4 pass each time, as long as a price may take.
 const UNHEARD = 25;
 
@@ -34,7 +34,7 @@ export const untilSure = async (session, events, { isLeft, hear, tell = () => {}
     const from = performance.now(), found = read(session.search(nodes, events)), now = performance.now();
     if (isSure(found) || now > until) return found;
     tell(found);
-    if (now - from < STEP) nodes = Math.max(FIRST_NODES, 2 * nodes);
+    if (now - from < STEP) nodes *= 2;
     await hear();
     if (isLeft()) return null;
   }
