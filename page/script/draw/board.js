@@ -7,7 +7,7 @@ import { bareClock, clock, labelOf, shortText, spanText, stepOf, trainName } fro
 import { minuteText } from './tables.js';
 import { trainAt } from '../session/trains.js';
 
-const SIZE = 320, RING = 102, ROW = 17, LEVELS = 3, APART = 36, TICK = 6, MOST_ROWS = 200, MOST_CELLS = 24;
+const WIDE = 420, HIGH = 320, RING = 102, ROW = 17, LEVELS = 3, APART = 36, TICK = 6, MOST_ROWS = 200, MOST_CELLS = 24;
 
 const isArrival = event => labelOf(event).kind === 'arrival';
 
@@ -30,16 +30,17 @@ const placeOf = (period, minute, radius) => {
   return { x: Number((Math.sin(turn) * radius).toFixed(1)), y: Number((-Math.cos(turn) * radius).toFixed(1)) };
 };
 
-// A train on the face, as far out or in as no other one is near.
+// A train on the face, as far out or in as no other one is near; to the left and right its text is beside the ring, and not on it.
 const handOf = (view, event, taken) => {
   const { period } = view.network, time = view.times.get(event), side = isArrival(event) ? -1 : 1;
   const places = [...Array(LEVELS).keys()].map(level => placeOf(period, time, RING + side * ROW * (1 + level * 0.9)));
   const isFree = ({ x, y }) => taken.every(other => Math.abs(other.x - x) > APART || Math.abs(other.y - y) > ROW * 0.7), at = places.find(isFree) || places[0];
   taken.push(at);
+  const anchor = Math.abs(at.x) < RING / 3 ? 'middle' : side * at.x > 0 ? 'start' : 'end';
   const [from, to] = [placeOf(period, time, RING), placeOf(period, time, RING + side * TICK)], color = colorOf(view, event);
   return drawing('g', look(view, event), drawing('title', {}, `${trainName(labelOf(event))} ${clock(time)}`),
     drawing('path', { d: `M${from.x} ${from.y}L${to.x} ${to.y}`, stroke: color, 'stroke-width': 3 }),
-    drawing('text', { class: 'end', style: `fill: ${color}`, x: at.x, y: at.y + 4, 'text-anchor': 'middle' }, `${shortText(labelOf(event).line, 5)} ${bareClock(time)}`));
+    drawing('text', { class: 'end', style: `fill: ${color}`, x: at.x, y: at.y + 4, 'text-anchor': anchor }, `${shortText(labelOf(event).line, 5)} ${bareClock(time)}`));
 };
 
 const faceOf = (view, station, events) => {
@@ -50,7 +51,7 @@ const faceOf = (view, station, events) => {
   }
   const middle = ['within: arrivals', 'outside: departures'].map((text, place) => drawing('text', { class: 'axis', y: 16 * place, 'text-anchor': 'middle' }, text));
   const timed = events.filter(event => view.times.has(event)).slice(0, MOST_ROWS);
-  return drawing('svg', { class: 'face', viewBox: `${-SIZE / 2} ${-SIZE / 2} ${SIZE} ${SIZE}`, role: 'img', 'aria-label': `Clock face of ${station}` },
+  return drawing('svg', { class: 'face', viewBox: `${-WIDE / 2} ${-HIGH / 2} ${WIDE} ${HIGH}`, role: 'img', 'aria-label': `Clock face of ${station}` },
     drawing('circle', { class: 'ring', r: RING }), ...marks, ...middle, ...timed.map(event => handOf(view, event, taken)));
 };
 

@@ -25,7 +25,7 @@ const aboutOf = ({ places, radius, tracks }, station) => {
 export const labelPlace = (graph, station) => {
   const [x, y] = graph.places.get(station), reach = graph.radius.get(station) + 6, about = aboutOf(graph, station);
   let best = null;
-  for (const turn of [6, 2, 0, 4, 5, 7, 1, 3]) {
+  for (const turn of [6, 2, 0, 4, 5, 7, 1, 3, 5.5, 6.5, 0.5, 7.5, 1.5, 2.5, 3.5, 4.5]) {
     const across = Math.cos(turn * Math.PI / 4), down = Math.sin(turn * Math.PI / 4);
     const anchor = Math.abs(across) < 0.5 ? 'middle' : across > 0 ? 'start' : 'end';
     const place = { x: x + across * reach, base: y + down * (reach + NAME / 2) + NAME * 0.36, anchor };

@@ -43,10 +43,10 @@ const laidOut = function* ({ lines, network }, { about, stations, tracks, note }
   const known = stations.every(station => display.places.has(station)) ? display.places : yield* layOut(stations, lengthsOf(lines, network));
   const chosen = new Map(stations.map(station => [station, [known.get(station)[0], -known.get(station)[1]]]));
   const wanted = tracks.map(track => ({ ...track, along: ROOM + 2 * numberWidth() * mostNumbers(track.trackLines), beside: halfWidth(track) }));
-  const share = Math.min(1, Math.sqrt(stations.length / STATIONS_OF_A_PAGE)), shape = stations.length > FEW ? RATIOS[1] : ratio;
+  const isSmall = stations.length <= FEW, pages = stations.length / STATIONS_OF_A_PAGE, share = Math.sqrt(isSmall ? Math.min(1, pages) : pages), shape = isSmall ? ratio : RATIOS[1];
   const sides = [Math.sqrt(AREA * shape), Math.sqrt(AREA / shape)];
   const places = yield* spread(chosen, wanted, radius, sides.map(side => (side - 2 * MARGIN) * share));
-  return { about, tracks, radius, note, isSmall: stations.length <= FEW, places };
+  return { about, tracks, radius, note, isSmall, places };
 };
 
 // How many times as wide as high the view is that the netgraph fills.

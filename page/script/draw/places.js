@@ -1,19 +1,51 @@
 // Where stations lie on a netgraph: as a file of places says, or laid out from the lengths of tracks (stress majorization).
 
-const MOST_ROUNDS = 200, MOST_MOVES = 600000;
+// Parts that nothing joins lie in rows that are together about so many times as wide as high.
+const MOST_ROUNDS = 200, MOST_MOVES = 600000, RATIO = 2;
 
-// Places at which stations are about as far apart as the ways between them are long. It is worked out step by step.
+// Places at which stations are about as far apart as the ways between them are long; parts that nothing joins are beside each other. They
+// are worked out step by step.
 export const layOut = function* (stations, lengths) {
-  const apart = yield* distances(stations, lengths), places = firstPlaces(stations, apart);
-  const rounds = Math.min(MOST_ROUNDS, Math.floor(MOST_MOVES / Math.max(1, stations.length ** 2)) + 5);
-  for (let round = 0; round < rounds; round += 1) {
-    stations.forEach((_, station) => { places[station] = wanted(station, places, apart[station]); });
-    yield;
+  const apart = yield* distances(stations, lengths), all = [...lengths.values()], laid = new Map(), parts = [];
+  for (const part of partsOf(apart)) {
+    const places = yield* layOutPart(part.map(one => part.map(other => apart[one][other])));
+    parts.push(places);
+    part.forEach((station, place) => laid.set(stations[station], places[place]));
   }
-  return new Map(level(places).map((place, station) => [stations[station], place]));
+  inRows(parts, all.reduce((sum, length) => sum + length, 1) / (all.length + 1));
+  return new Map(stations.map(station => [station, laid.get(station)]));
 };
 
-// The lengths of shortest ways over tracks between these stations; parts that nothing joins are half as far again apart as the longest way.
+// The stations of each part.
+const partsOf = apart => apart.map(row => [...row.keys()].filter(each => row[each] < Infinity)).filter(([first], station) => first === station);
+
+const layOutPart = function* (apart) {
+  const places = firstPlaces(apart), rounds = Math.min(MOST_ROUNDS, Math.floor(MOST_MOVES / apart.length ** 2) + 5);
+  for (let round = 0; round < rounds; round += 1) {
+    places.forEach((_, station) => { places[station] = wanted(station, places, apart[station]); });
+    yield;
+  }
+  return level(places);
+};
+
+const boxOf = places => [0, 1].map(axis => {
+  const all = places.map(place => place[axis]), least = Math.min(...all);
+  return { least, size: Math.max(...all) - least };
+});
+
+// Moves the places of parts into rows, of the highest parts first, with some room between them.
+const inRows = (parts, room) => {
+  const boxed = parts.map(places => ({ places, box: boxOf(places) })).sort((one, other) => other.box[1].size - one.box[1].size);
+  const widest = Math.sqrt(RATIO * boxed.reduce((sum, { box: [across, down] }) => sum + (across.size + room) * (down.size + room), 0));
+  let [x, y, high] = [0, 0, 0];
+  for (const { places, box: [across, down] } of boxed) {
+    if (x + across.size > widest) [x, y, high] = [0, y + high, 0];
+    for (const place of places) [place[0], place[1]] = [place[0] + x - across.least, place[1] + y - down.least];
+    [x, high] = [x + across.size + room, Math.max(high, down.size + room)];
+  }
+};
+
+// The lengths of shortest ways over tracks between these stations, infinite where there is none.
 const distances = function* (stations, lengths) {
   const apart = stations.map((_, one) => stations.map((__, other) => one === other ? 0 : Infinity));
   const places = new Map(stations.map((station, place) => [station, place]));
@@ -29,19 +61,17 @@ const distances = function* (stations, lengths) {
     }
     yield;
   }
-  const longest = apart.flat().reduce((most, each) => each < Infinity ? Math.max(most, each) : most, 1);
-  return apart.map(row => row.map(each => each < Infinity ? each : 1.5 * longest));
+  return apart;
 };
 
 const farthest = (count, far) => [...Array(count).keys()].reduce((best, each) => far(each) > far(best) ? each : best, 0);
 
 // A first layout, by the distances from two ends of the network and from what is far from both.
-const firstPlaces = (stations, apart) => {
-  if (!stations.length) return [];
-  const west = farthest(stations.length, each => apart[0][each]), east = farthest(stations.length, each => apart[west][each]);
-  const north = farthest(stations.length, each => Math.min(apart[west][each], apart[east][each]));
+const firstPlaces = apart => {
+  const west = farthest(apart.length, each => apart[0][each]), east = farthest(apart.length, each => apart[west][each]);
+  const north = farthest(apart.length, each => Math.min(apart[west][each], apart[east][each]));
   // The small shift keeps two stations apart that are equally far from all three.
-  return stations.map((_, each) => [(apart[west][each] - apart[east][each]) / 2 + each * 1e-3, apart[north][each] + (each % 7) * 1e-3]);
+  return apart.map((_, each) => [(apart[west][each] - apart[east][each]) / 2 + each * 1e-3, apart[north][each] + (each % 7) * 1e-3]);
 };
 
 // Where the other stations, at their places, want a station, near ones most.
@@ -60,7 +90,7 @@ const wanted = (station, places, apart) => {
 
 // The same layout about its middle, turned so that it is widest from west to east.
 const level = places => {
-  const count = Math.max(1, places.length), middle = [0, 1].map(axis => places.reduce((sum, place) => sum + place[axis], 0) / count);
+  const count = places.length, middle = [0, 1].map(axis => places.reduce((sum, place) => sum + place[axis], 0) / count);
   const moved = places.map(([x, y]) => [x - middle[0], y - middle[1]]);
   const across = moved.reduce((sum, [x, y]) => sum + 2 * x * y, 0), along = moved.reduce((sum, [x, y]) => sum + x * x - y * y, 0);
   const turn = -Math.atan2(across, along) / 2, cosine = Math.cos(turn), sine = Math.sin(turn);

@@ -2,7 +2,14 @@
 
 import { find } from '../base/elements.js';
 
+// The others have less room then: what has the keys among them, or is chosen, stays in sight.
+const keepInSight = () => {
+  const { activeElement } = document, row = find('rows').contains(activeElement) ? activeElement : find('rows').querySelector('.chosen');
+  if (row && find('unfold').getClientRects().length) row.scrollIntoView({ block: 'nearest' });
+};
+
 const show = isOn => {
+  if (isOn && !document.body.classList.contains('unfolded')) requestAnimationFrame(keepInSight);
   document.body.classList.toggle('unfolded', isOn);
   find('unfold').setAttribute('aria-expanded', isOn);
   if (!isOn) find('chosen').scrollTop = 0;

@@ -14,12 +14,12 @@ const groupsOf = ({ events, activities }) => {
   return [...componentsOf(events, joins, MOST_EVENTS)];
 };
 
-// The network of a group alone.
-const networkOf = ({ period, windows, activities }, group) => {
-  const events = group.sort((one, other) => one - other), has = event => events.includes(event);
+// The network of some events alone.
+export const partOf = ({ period, windows, activities }, group) => {
+  const events = group.sort((one, other) => one - other), all = new Set(events);
   return {
-    period, events, windows: new Map([...windows].filter(([event]) => has(event))),
-    activities: new Map([...activities].filter(([, { first, last }]) => has(first) && has(last))),
+    period, events, windows: new Map([...windows].filter(([event]) => all.has(event))),
+    activities: new Map([...activities].filter(([, { first, last }]) => all.has(first) && all.has(last))),
   };
 };
 
@@ -29,7 +29,7 @@ export const boundingOf = network => {
   const groups = groupsOf(network), open = groups.filter(group => group.length > 1 && groups.length > 1).map(group => ({ group, session: null, nodes: FIRST_NODES, least: 0n }));
   let least = 0n;
   const searchMore = job => {
-    const { group, nodes } = job, from = performance.now(), session = job.session || openSession(baseOf(networkOf(network, group), new Map()));
+    const { group, nodes } = job, from = performance.now(), session = job.session || openSession(baseOf(partOf(network, group), new Map()));
     const found = session.search(nodes, group), bound = BigInt(found.bound || 0);
     if (bound > job.least) least += bound - job.least;
     if (isSure(found)) session.close();
