@@ -4,6 +4,7 @@ from typing import Dict, List, Tuple
 
 from page_tests.hands import TWO_TRAINS, Hands
 from page_tests.keys import CODES, CTRL
+from page_tests.mending import UNSEEN
 from tests.harness import Suite, within
 
 KNOWN = "Page.find('above').textContent !== '' && !Page.find('above').textContent.includes('looked for')"
@@ -79,6 +80,24 @@ def above_told(suite: Suite, page: Hands) -> None:
     page.until(KNOWN)
     suite.note("none", {"above": "✕ No timetable meets everything."}, {"above": page.text("#above")})
     page.again()
+
+
+def seen_whole(suite: Suite, page: Hands) -> None:
+    """On each screen what the tick says is seen whole, beside a timetable that was found, and heads are low; on a wide one they are a fifth."""
+    for width, height, part in [(1920, 1080, 0.2), (1360, 850, 0.2), (800, 1000, 0.3), (390, 800, 0.33)]:
+        page.again()
+        page.resize(width, height)
+        page.ask("Page.step(['fix 1 28'])")
+        page.press("optimum")
+        page.until("Page.find('stop').hidden && !Page.find('adopt').hidden")
+        page.press("always")
+        page.until(KNOWN)
+        page.frame()
+        top, unseen = page.box("main")[1], page.ask(UNSEEN.replace("NAMES", "['always', 'rest', 'above', 'adopt', 'see', 'offers']"))
+        suite.note(f"{width} points", {"unseen": []}, {"unseen": unseen})
+        suite.holds(f"{width} points: heads of {top:.0f} of {height}", top <= part * height)
+        page.press("always")
+        page.resize(1440, 900)
 
 
 @within(120)
@@ -196,7 +215,8 @@ def rest_stays(suite: Suite, page: Hands) -> None:
     page.mouse("mouseReleased", *page.minute(2, 8))
     page.frame()
     suite.note("none", {"lines": ["fix 1 0", "time 2 8"], "why": True}, {"lines": page.lines(), "why": "the rest stays: no timetable has it there" in page.said()})
-    page.ask("Page.undo(); Page.find('rest').value = ''")
+    page.ask("Page.undo(); Page.find('rest').focus()")
+    page.type("s")
     page.drag([page.grip(2, "now"), page.minute(2, 5), page.minute(2, 6)])
     page.until(KNOWN)
     suite.note("it stays", {"lines": ["fix 1 0", "time 2 6"]}, {"lines": page.lines()})
@@ -232,4 +252,4 @@ def pictures_go_on(suite: Suite, page: Hands) -> None:
     page.again()
 
 
-GROUPS = [above_told, rest_follows, rest_follows_later, nearest_follows, rest_with_nothing_held, rest_stays, pictures_go_on]
+GROUPS = [above_told, seen_whole, rest_follows, rest_follows_later, nearest_follows, rest_with_nothing_held, rest_stays, pictures_go_on]

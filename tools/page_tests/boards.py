@@ -58,6 +58,21 @@ def board(suite: Suite, page: Hands) -> None:
     page.ask("Page.showTab('diagram')")
 
 
+def off_the_ring(suite: Suite, page: Hands) -> None:
+    """No text on a face lies on its ring, at any station."""
+    page.again()
+    crossing = """[...document.querySelectorAll('.face text.end')].filter(each => {
+        const { x, y, width, height } = each.getBBox(), ring = Number(document.querySelector('.face .ring').getAttribute('r'));
+        const far = [x, x + width].flatMap(across => [y + height / 4, y + 3 * height / 4].map(down => Math.hypot(across, down)));
+        return Math.min(...far) < ring && Math.max(...far) > ring;
+    }).map(each => each.textContent)"""
+    for name in page.ask("[...new Set(Page.view.lines.flatMap(line => line.stations))]"):
+        page.ask(f"Page.choose(Page.view.network.events.find(event => Page.labelOf(event).station === '{name}')); Page.showTab('station')")
+        page.frame()
+        suite.note(name, {"board": name, "on the ring": []}, {"board": station(page), "on the ring": page.ask(crossing)})
+        page.ask("Page.showTab('diagram')")
+
+
 def from_names(suite: Suite, page: Hands) -> None:
     """Two clicks on a station's name show its board, in rows, the diagram, the netgraph, the corridor and tables; so do B, a button and a typed name."""
     page.again()
@@ -117,4 +132,4 @@ def on_paper_as_chosen(suite: Suite, page: Hands) -> None:
     suite.note("in another network", {"it": everything}, {"it": printed()})
 
 
-GROUPS = [board, from_names, on_paper_as_chosen]
+GROUPS = [board, off_the_ring, from_names, on_paper_as_chosen]

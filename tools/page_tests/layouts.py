@@ -6,6 +6,7 @@ from math import dist
 from typing import Any, Dict, Iterable, Sequence, Tuple
 
 from page_tests.hands import Hands
+from page_tests.slips import ON_EACH_OTHER
 from pespbench.drawn import Region, draw_region
 from tests.harness import Suite, within
 
@@ -29,6 +30,11 @@ def distances(suite: Suite, page: Hands) -> None:
     suite.holds("a way over two tracks", abs(dist(apart["a"], apart["c"]) - 5) <= 0.5 and abs(dist(apart["a"], apart["b"]) - 2) <= 0.5)
     places = laid_out_by(page, ["a", "b", "c"], [("ab", 10)])
     suite.note("a part of its own", {"places": 3}, {"places": len({(round(x), round(y)) for x, y in places.values()})})
+    ways = [(f"{one}{part} {other}{part}".split(), 10) for part in range(7) for one, other in ("ab", "bc", "cd", "da", "ac")]
+    places = laid_out_by(page, [f"{station}{part}" for part in range(7) for station in "abcd"], ways)
+    boxes = [[sorted(places[f"{station}{part}"][axis] for station in "abcd")[::3] for axis in (0, 1)] for part in range(7)]
+    over = [pair for pair in combinations(boxes, 2) if all(max(one[0], other[0]) < min(one[1], other[1]) for one, other in zip(*pair, strict=True))]
+    suite.note("parts are beside each other", {"over": [], "rows": True}, {"over": over, "rows": 1 < len({round(box[1][0]) for box in boxes}) < 7})
     suite.note("alone, and none", {"one": ["a"], "none": []}, {"one": list(laid_out_by(page, ["a"], [])), "none": list(laid_out_by(page, [], []))})
     spread = page.ask("""[...Page.atOnce(Page.spread(new Map([['a', [0, 0]], ['b', [0, 0]], ['c', [0, 0]]]), [{ one: 'a', other: 'b', along: 80, beside: 10 }],
         new Map([['a', 10], ['b', 10], ['c', 10]]), [500, 300])).values()]""")
@@ -45,6 +51,18 @@ def texts_of(region: Region) -> Dict[str, str]:
         "period": ["60"],
     }  # fmt: skip
     return {name: "".join(f"{row}\n" for row in listed) for name, listed in rows.items()}
+
+
+def names_apart(suite: Suite, page: Hands) -> None:
+    """On the netgraph of the first story no name of a station lies on a minute."""
+    page.again()
+    page.press("tab-netgraph")
+    page.drawn()
+    came = page.ask(ON_EACH_OTHER.replace("SELECTOR", "#netgraph :is(text.place, text.minutes)"))
+    names = page.ask("[...document.querySelectorAll('#netgraph text.place')].map(each => each.textContent)")
+    suite.note("they", {"on a minute": []}, {"on a minute": [pair for pair in came["found"] if any(name in pair for name in names)]})
+    suite.holds(f"{came['count']} texts", came["count"] > 100)
+    page.press("tab-diagram")
 
 
 @within(120)
@@ -103,4 +121,4 @@ def minutes_told(suite: Suite, page: Hands) -> None:
         suite.note(f"period {period}", {"runs": runs, "bare": bare}, came)
 
 
-GROUPS = [distances, room, trains, axes, minutes_told]
+GROUPS = [distances, names_apart, room, trains, axes, minutes_told]

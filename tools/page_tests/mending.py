@@ -4,13 +4,21 @@ import itertools
 import random
 from typing import Dict, List, Tuple
 
+from page_tests.fingers import swipe, tap, touch
 from page_tests.hands import TWO_TRAINS, Hands
 from page_tests.keys import CTRL
+from page_tests.moving import piece
 from tests.harness import Suite, within
 
 PROPOSED = "!Page.find('proposed').hidden"
 VIOLATED = "Page.countViolated(Page.view)"
 TIMES = "Object.fromEntries(Page.view.times)"
+# Those of some things by their ids that are not seen whole on the screen, or lie below something else.
+UNSEEN = """NAMES.filter(name => {
+    const node = Page.find(name), lines = [...node.getClientRects()];
+    return !lines.length || !lines.every(({ left, right, top, bottom }) => left >= 0 && top >= 0 && right < innerWidth + 1 && bottom < innerHeight + 1
+        && [left + 2, right - 2].every(x => node.contains(document.elementFromPoint(x, (top + bottom) / 2))));
+})"""
 
 
 def moved(page: Hands, minutes: float = 3, train: int = 21) -> None:
@@ -129,7 +137,8 @@ def nearest_of_all(suite: Suite, page: Hands) -> None:
 def not_mended(suite: Suite, page: Hands) -> None:
     """Where there is none within what others may move, that is told, and why is asked with what was moved held."""
     moved(page, 12)
-    page.ask("Page.find('most-moved').value = '2'")
+    page.ask("Page.find('most-moved').focus()")
+    page.type("2")
     page.press("mend")
     page.until(PROPOSED)
     told = "No timetable meets everything with what was moved, and what is to stay, where it is and others moved by at most 2 minutes."
@@ -173,4 +182,36 @@ def trains_that_stay(suite: Suite, page: Hands) -> None:
     page.again()
 
 
-GROUPS = [mended, mended_by_keys, nearest_of_all, not_mended, trains_that_stay]
+def mended_on_any_screen(suite: Suite, page: Hands) -> None:
+    """On a phone a finger moves and mends, and on the whole screen a mouse does; what it presses, and what is proposed, is seen whole."""
+    for name, width, height in [("a phone", 390, 800), ("a small screen", 800, 1000), ("the whole screen", 1360, 850)]:
+        page.again()
+        page.resize(width, height)
+        press = page.press
+        if width < 1000:
+            touch(page)
+            x, y = page.middle('[data-way="21"]')
+            swipe(page, [(x + minutes * page.box('[data-way="21"]')[2] / 60, y) for minutes in range(4)])
+            press = lambda name: tap(page, page.middle(f"#{name}"))  # noqa: E731
+        else:
+            page.ask("Page.choose(21)")
+            page.press("large")
+            x, y, minute = piece(page, 21)
+            page.drag([(x, y), (x + 2 * minute, y), (x + 3 * minute, y)])
+        suite.note(f"{name}: violated", {"count": 1, "unseen": []}, {"count": page.ask(VIOLATED), "unseen": page.ask(UNSEEN.replace("NAMES", "['mend']"))})
+        press("mend")
+        page.until(PROPOSED)
+        page.frame()
+        told = page.text("#proposed-told")
+        wanted = {"told": "R2 to Cranley moves, by at most 2 minutes; cost 3 less", "unseen": []}
+        suite.note(f"{name}: proposed", wanted, {"told": told, "unseen": page.ask(UNSEEN.replace("NAMES", "['proposed-told', 'take-proposed', 'leave-proposed']"))})
+        press("take-proposed")
+        page.frame()
+        suite.note(f"{name}: taken", {"violated": 0, "steps": 2}, {"violated": page.ask(VIOLATED), "steps": page.ask("Page.session.steps.length")})
+        if width < 1000:
+            touch(page, is_on=False)
+        page.resize(1440, 900)
+    page.again()
+
+
+GROUPS = [mended, mended_by_keys, mended_on_any_screen, nearest_of_all, not_mended, trains_that_stay]

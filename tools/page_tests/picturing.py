@@ -70,6 +70,15 @@ def of_the_screen(suite: Suite, page: Hands) -> None:
             suite.holds(f"{tab} fills it: {drawn:.0f} by {tall:.0f} of {room}", drawn > 0.99 * room[0] or tall > 0.99 * room[1])
         strip = page.box('.strip[data-event="1"]')[2] / 60
         suite.holds(f"{strip:.2f} points a minute at {width}", strip >= 8)
+        cut = page.ask("['title', 'size'].filter(name => Page.find(name).scrollWidth > Page.find(name).clientWidth + 1)")
+        suite.note(f"the name at {width}", {"cut": []}, {"cut": cut})
+    for width in (1360, 390):
+        page.resize(width, 850)
+        page.show(large.texts(10))
+        page.ask("Page.choose(Page.view.lines[9].trains[0].events[0]); Page.showTab('diagram')")
+        page.frame()
+        right, minute = page.ask("[document.querySelector('#line-choice').getBoundingClientRect().right, document.querySelector('#diagram text.axis').getBoundingClientRect().left]")
+        suite.holds(f"the choice of a line ends at {right:.0f}, and minutes begin at {minute:.0f}, at {width}", right <= minute)
     page.resize(1440, 900)
     page.ask("Page.showTab('diagram')")
 
@@ -229,6 +238,13 @@ def whole_screen(suite: Suite, page: Hands) -> None:
         _, _, width, height = page.box("#views")
         came = {"wide": round(width), "high": round(height), "cost": page.is_shown("figure-cost"), "events": page.is_shown("events")}
         suite.note(tab, {"wide": 1440, "high": 900, "cost": True, "events": False}, came)
+        page.resize(1360, 850)
+        covered = """[...document.querySelectorAll('[role=tab], #zoom :is(button, label), #figure-cost, #figure-violations')].filter(each => {
+            const { left, right, top, bottom } = each.getBoundingClientRect();
+            return ![left + 2, right - 2].every(x => each.contains(document.elementFromPoint(x, (top + bottom) / 2)));
+        }).map(each => each.textContent)"""
+        suite.note(f"{tab} at 1360", {"covered": []}, {"covered": page.ask(covered)})
+        page.resize(1440, 900)
         page.key("Escape", 27)
         page.frame()
         suite.holds("Escape leaves it", page.is_shown("events") and not page.ask("Page.find('large').checked"))
@@ -261,6 +277,10 @@ def on_a_phone(suite: Suite, page: Hands) -> None:
     )
     came = {"seen": seen, "name": page.text("#chosen-name"), "lines": page.lines()}
     suite.note("a tap on a strip", {"seen": [True] * 3, "name": page.ask("Page.eventName(9)"), "lines": []}, came)
+    page.frame()
+    _, top, _, high = page.ask("(({ left, top, width, height }) => [left, top, width, height])(document.querySelector('.row.chosen').getBoundingClientRect())")
+    _, over, _, room = page.ask("(({ left, top, width, height }) => [left, top, width, height])(Page.find('events').getBoundingClientRect())")
+    suite.holds(f"its row from {top:.0f} to {top + high:.0f} stays in sight, within {over:.0f} to {over + room:.0f}", over <= top and top + high <= over + room + 1)
     tap(page, page.middle("#unfold"))
     page.frame()
     high = page.box("#chosen")[3]

@@ -10,7 +10,7 @@ from tests.harness import Suite
 
 NIGHT = {**TWO_TRAINS, "period": "1440\n"}
 FOCUS = "document.activeElement === document.body ? '' : document.activeElement.id || document.activeElement.textContent || document.activeElement.tagName"
-# Pairs of red texts of a drawing, each of several letters, of which one lies on the other: their boxes as they are turned.
+# Pairs of texts of a drawing, each of several letters, of which one lies on the other: their boxes as they are turned.
 ON_EACH_OTHER = """(() => {
     const corners = text => {
         const { x, y, width, height } = text.getBBox(), at = text.getScreenCTM(), top = y + height / 8, bottom = y + height - height / 8;
@@ -22,8 +22,8 @@ ON_EACH_OTHER = """(() => {
         const [first, second] = [reach(one, axis), reach(other, axis)];
         return first[1] <= second[0] || second[1] <= first[0];
     });
-    const data = text => text.firstChild ? text.firstChild.data : '', found = [];
-    const texts = [...document.querySelectorAll('SELECTOR text.broken')].filter(each => data(each).length > 1);
+    const data = text => text.querySelector('tspan') ? text.textContent : text.firstChild ? text.firstChild.data : '', found = [];
+    const texts = [...document.querySelectorAll('SELECTOR')].filter(each => data(each).length > 1);
     const boxes = texts.map(corners);
     texts.forEach((one, place) => boxes.slice(0, place).forEach((box, other) => {
         if (!isApart(box, boxes[place])) found.push(`${data(texts[other])} / ${data(one)}`);
@@ -229,14 +229,14 @@ def red_texts_apart(suite: Suite, page: Hands) -> None:
         for line in ("R1", "R4"):
             page.ask(f"Page.choose(Page.view.lines.find(each => each.name === '{line}').trains[0].events[0])")
             page.frame()
-            came = page.ask(ON_EACH_OTHER.replace("SELECTOR", f"#{tab}"))
+            came = page.ask(ON_EACH_OTHER.replace("SELECTOR", f"#{tab} text.broken"))
             suite.note(f"{tab}, {line}", {"they": []}, {"they": came["found"]})
         suite.holds(f"{tab}: {came['count']} texts", came["count"] >= wanted)
     twelve = "".join(f"{number}; 1; 2; 7; 8; 1\n" for number in range(1, 13))
     page.show({**TWO_TRAINS, "activities": twelve})
     page.ask("Page.showTab('diagram')")
     page.frame()
-    came = page.ask(ON_EACH_OTHER.replace("SELECTOR", "#diagram"))
+    came = page.ask(ON_EACH_OTHER.replace("SELECTOR", "#diagram text.broken"))
     suite.note("twelve at one place", {"they": []}, {"they": came["found"]})
     suite.holds(f"{came['count']} of them have words", came["count"] > 3)
     page.again()

@@ -95,6 +95,27 @@ def help_of_many(suite: Suite, page: Hands) -> None:
     suite.holds("no sum is sure where the best is not", all(each.endswith((", perhaps", ", or less")) for each in sums))
 
 
+@within(120)
+def mend_of_many(suite: Suite, page: Hands) -> None:
+    """A train is moved in a network of 2,048 events, and mended as soon as in its part alone, where all others stay."""
+    page.show(large.texts())
+    first = page.ask("Page.view.trains[8].events[0]")
+    before = page.ask("Object.fromEntries(Page.view.times)")
+    x, y = page.middle(f'[data-way="{first}"]')
+    minute = page.box(f'[data-way="{first}"]')[2] / 60
+    page.drag([(x, y), (x + 2 * minute, y), (x + 3 * minute, y)])
+    broken = page.ask("Page.countViolated(Page.view)")
+    suite.holds(f"{broken} are violated", broken > 0)
+    page.press("mend")
+    page.until("!Page.find('proposed').hidden", 25)
+    after = page.ask("Object.fromEntries(Page.view.times)")
+    came = {"violated": page.ask("Page.countViolated(Page.view)"), "stay": [event for event in before if int(event) > 112 and before[event] != after[event]]}
+    suite.note(f"mended: {page.text('#proposed-told')}", {"violated": 0, "stay": []}, came)
+    suite.holds("it is the nearest", "perhaps" not in page.text("#proposed-told"))
+    page.press("take-proposed")
+    page.again()
+
+
 def better_as_it_is(suite: Suite, page: Hands) -> None:
     """A timetable that was found with a minute more, and does not need it, is one of the network as it is."""
     page.show(TWO_TRAINS)
@@ -136,15 +157,21 @@ def netgraph_of_many(suite: Suite, page: Hands) -> None:
     page.drawn()
     near = page.ask(NUMBERS)
     suite.holds(f"zoomed, {len(near)} are drawn", 0 < len(near) < len(before))
-    page.ask("Page.find('netgraph').scrollBy(700, 350)")
+    page.ask(
+        """(() => {
+        const panel = Page.find('netgraph'), { station } = Page.labelOf(1000), drawn = [...panel.querySelectorAll('[data-station]')].find(each => each.dataset.station === station);
+        const [at, of] = [drawn, panel].map(each => each.getBoundingClientRect());
+        panel.scrollBy(at.left - of.left - of.width / 2, at.top - of.top - of.height / 2);
+    })()"""
+    )
     page.frame()
     page.drawn()
     after = page.ask(NUMBERS)
-    suite.holds("others are drawn, and some are not any more", bool(set(after) - set(near)) and bool(set(near) - set(after)))
+    suite.holds("others are drawn, and some are not any more", "1000" in set(after) - set(near) and bool(set(near) - set(after)))
     suite.note("they are those shown, too", {event: page.ask(TIMES)[event] for event in after}, after)
     page.ask("Page.showRow(1); Page.showRow(3); Page.showTab('diagram'); Page.showTab('netgraph')")
     whole = page.ask("[...Page.netgraphOf(Page.view).drawn.querySelectorAll('tspan')].length")
     suite.note("on paper there are all", {"numbers": len(times)}, {"numbers": whole})
 
 
-GROUPS = [why_of_many, bound_of_many, help_of_many, better_as_it_is, netgraph_of_many]
+GROUPS = [why_of_many, bound_of_many, help_of_many, mend_of_many, better_as_it_is, netgraph_of_many]

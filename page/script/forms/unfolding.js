@@ -2,14 +2,14 @@
 
 import { find } from '../base/elements.js';
 
-// The others have less room then: what has the keys among them, or is chosen, stays in sight.
+// The others have less room then: the row that has the keys, or is chosen when that is drawn, stays in sight.
 const keepInSight = () => {
-  const { activeElement } = document, row = find('rows').contains(activeElement) ? activeElement : find('rows').querySelector('.chosen');
-  if (row && find('unfold').getClientRects().length) row.scrollIntoView({ block: 'nearest' });
+  const rows = find('rows'), { activeElement } = document, within = rows.contains(activeElement) ? activeElement : rows.querySelector('.chosen');
+  if (within && find('unfold').getClientRects().length) within.closest('.row').scrollIntoView({ block: 'nearest' });
 };
 
 const show = isOn => {
-  if (isOn && !document.body.classList.contains('unfolded')) requestAnimationFrame(keepInSight);
+  if (isOn && !document.body.classList.contains('unfolded')) requestAnimationFrame(() => requestAnimationFrame(keepInSight));
   document.body.classList.toggle('unfolded', isOn);
   find('unfold').setAttribute('aria-expanded', isOn);
   if (!isOn) find('chosen').scrollTop = 0;
