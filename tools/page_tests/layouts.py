@@ -6,6 +6,7 @@ from math import dist
 from typing import Any, Dict, Iterable, Sequence, Tuple
 
 from page_tests.hands import Hands
+from page_tests.lines import NETWORK
 from page_tests.slips import ON_EACH_OTHER
 from pespbench.drawn import Region, draw_region
 from tests.harness import Suite, within
@@ -54,7 +55,7 @@ def texts_of(region: Region) -> Dict[str, str]:
 
 
 def names_apart(suite: Suite, page: Hands) -> None:
-    """On the netgraph of the first story no name of a station lies on a minute."""
+    """On the netgraph of the first story no name of a station lies on a minute, and all of it is within the drawing."""
     page.again()
     page.press("tab-netgraph")
     page.drawn()
@@ -62,6 +63,23 @@ def names_apart(suite: Suite, page: Hands) -> None:
     names = page.ask("[...document.querySelectorAll('#netgraph text.place')].map(each => each.textContent)")
     suite.note("they", {"on a minute": []}, {"on a minute": [pair for pair in came["found"] if any(name in pair for name in names)]})
     suite.holds(f"{came['count']} texts", came["count"] > 100)
+    for name, texts in [("short names", NETWORK), ("the region", None)]:
+        if texts:
+            page.show(texts)
+        else:
+            page.again()
+        page.press("tab-netgraph")
+        page.drawn()
+        beyond = page.ask(
+            """(() => {
+            const within = document.querySelector('#netgraph > svg').getBoundingClientRect();
+            return [...document.querySelectorAll('#netgraph :is(.ring, text)')].filter(each => {
+                const { left, right, top, bottom } = each.getBoundingClientRect();
+                return left < within.left || right > within.right || top < within.top || bottom > within.bottom;
+            }).map(each => each.textContent || each.parentNode.dataset.station);
+        })()"""
+        )
+        suite.note(f"{name}: beyond the drawing", {"they": []}, {"they": beyond})
     page.press("tab-diagram")
 
 

@@ -89,10 +89,10 @@ const sheetOf = (name, children, isPaper = false) => {
 const nameOf = view => `Netgraph of ${graph.places.size} stations and ${view.lines.length} lines`;
 
 const viewBox = ({ places, radius }, labels) => {
-  const spans = [...labels].map(([station, { x, anchor }]) => spanOfName(station, x, anchor));
-  const ys = [...places].map(([station, [, y]]) => [y, radius.get(station)]);
-  const left = Math.min(...spans.map(span => span[0])) - EDGE, right = Math.max(...spans.map(span => span[1])) + EDGE;
-  const top = Math.min(...ys.map(([y, r]) => y - r)) - EDGE - 2 * NAME, bottom = Math.max(...ys.map(([y, r]) => y + r)) + EDGE + 2 * NAME;
+  const rings = [0, 1].map(axis => [...places].map(([station, place]) => [-1, 1].map(side => place[axis] + side * radius.get(station))));
+  const spans = [...labels].map(([station, { x, anchor }]) => spanOfName(station, x, anchor)), [xs, ys] = [[...rings[0], ...spans], rings[1]];
+  const left = Math.min(...xs.map(([least]) => least)) - EDGE, right = Math.max(...xs.map(([, most]) => most)) + EDGE;
+  const top = Math.min(...ys.map(([least]) => least)) - EDGE - 2 * NAME, bottom = Math.max(...ys.map(([, most]) => most)) + EDGE + 2 * NAME;
   return [left, top, right - left, bottom - top].map(Math.round);
 };
 
