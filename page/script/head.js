@@ -62,7 +62,6 @@ const nameCost = event => {
 export const startHead = () => {
   find('cost-name').addEventListener('change', nameCost);
   for (const [name, act] of [['undo', undo], ['redo', redo]]) find(name).addEventListener('click', act);
-  find('print').addEventListener('click', () => window.print());
   window.addEventListener('keydown', event => {
     const key = event.key.toLowerCase(), isOfField = OF_FIELDS.includes(key) && /** @type {any} */ (event.target).matches(FIELDS);
     if (!(event.ctrlKey || event.metaKey) || event.altKey || !KEYS.has(key) || isOfField) return;

@@ -2,7 +2,9 @@
 
 from typing import Any
 
+from page_tests import large
 from page_tests.corridor import TRAINS, texts_of
+from page_tests.fingers import tap, touch
 from page_tests.hands import Hands
 from page_tests.keys import CTRL
 from page_tests.picturing import NIGHT
@@ -74,7 +76,7 @@ def off_the_ring(suite: Suite, page: Hands) -> None:
 
 
 def from_names(suite: Suite, page: Hands) -> None:
-    """Two clicks on a station's name show its board, in rows, the diagram, the netgraph, the corridor and tables; so do B, a button and a typed name."""
+    """Two clicks, or taps, on a station's name show its board, in rows, the diagram, the netgraph, the corridor and tables; so do B, a button and a typed name."""
     page.again()
     row = page.ask("(({ left, top, height }) => [left + 10, top + height / 2])(document.querySelector('[data-row=\"3\"] .name').getBoundingClientRect())")
     page.click(row[0], row[1], count=2)
@@ -86,6 +88,17 @@ def from_names(suite: Suite, page: Hands) -> None:
         page.click(*page.middle(f'#{tab} [data-station="{name}"]' + (" text" if tab == "netgraph" else "")), count=2)
         page.frame()
         suite.note(f"in the {tab}", {"it": name}, {"it": station(page)})
+    page.resize(390, 800)
+    touch(page)
+    page.ask("Page.showTab('diagram'); Page.choose(21)")
+    page.frame()
+    place = page.middle('#diagram [data-station="Jarrow"]')
+    tap(page, place)
+    tap(page, place)
+    page.frame()
+    suite.note("two taps of a finger", {"it": "Jarrow"}, {"it": station(page)})
+    touch(page, is_on=False)
+    page.resize(1440, 900)
     page.ask("Page.chooseCorridor([]); Page.showTab('tables')")
     page.click(*page.middle('#tables [data-station="Oakham"]'), count=2)
     page.frame()
@@ -130,6 +143,18 @@ def on_paper_as_chosen(suite: Suite, page: Hands) -> None:
     suite.note("it is kept", {"it": [["R2"], ["Ashford", "Cranley"]]}, {"it": kept})
     page.ask("Page.openStory(Page.stories[0])")
     suite.note("in another network", {"it": everything}, {"it": printed()})
+    page.ask("window.isPrinted = false")
+    page.press("print")
+    suite.note("a few lines", {"asked": False, "printed": True}, {"asked": page.is_shown("papers"), "printed": page.ask("window.isPrinted")})
+    page.show(large.texts())
+    page.ask("window.isPrinted = false")
+    page.press("print")
+    suite.note("2,048 events", {"asked": True, "printed": False}, {"asked": page.is_shown("papers"), "printed": page.ask("window.isPrinted")})
+    page.click(*page.middle("#lines-on-paper option:nth-child(2)"))
+    page.press("papers-print")
+    page.until("window.isPrinted")
+    suite.note("its second line", {"it": ["R1.2"]}, {"it": printed()[0]})
+    page.again()
 
 
 GROUPS = [board, off_the_ring, from_names, on_paper_as_chosen]

@@ -63,12 +63,13 @@ def corridor(page: Hands) -> Any:
 
 def points(page: Hands, selector: str) -> List[List[List[Tuple[int, str]]]]:
     """Of each path of the corridor's diagram its points in minutes and stations."""
-    heights = page.ask(
-        """Object.fromEntries([...document.querySelectorAll('#corridor .station')].map((each, place) =>
-        [each.getAttribute('d').match(/ ([0-9.]+)H/)[1], Page.corridor.stations[place]]))"""
+    # Both are asked at once: the diagram is drawn again where its view gets another size.
+    heights, paths = page.ask(
+        f"""[Object.fromEntries([...document.querySelectorAll('#corridor .station')].map((each, place) =>
+        [each.getAttribute('d').match(/ ([0-9.]+)H/)[1], Page.corridor.stations[place]])),
+        [...document.querySelectorAll('#corridor {selector}')].map(each => each.getAttribute('d'))]"""
     )
     period, named = page.ask("Page.view.network.period"), {f"{float(y):.1f}": name for y, name in heights.items()}
-    paths = page.ask(f"[...document.querySelectorAll('#corridor {selector}')].map(each => each.getAttribute('d'))")
     left, width = page.across("corridor")
     return [
         [

@@ -89,6 +89,13 @@ def words_of_edits(suite: Suite, page: Hands) -> None:
     suite.note("texts that are edits", {"they": texts}, {"they": [text for text in texts if EDIT.search(text)]})
 
 
+def names_say_what(suite: Suite, page: Hands) -> None:
+    """No thing in a script has a name that fits anything."""
+    vague = re.compile(r"(?<![.\w])(?:lanes|ways|parts|shown|told)\b(?! *:)")
+    code = {path.stem: re.sub(r"//[^\n]*|/[*].*?[*]/|'[^'\n]*'|\"[^\"\n]*\"|`[^`]*`", "", path.read_text(), flags=re.S) for path in SCRIPTS.rglob("*.js")}
+    suite.note("vague names", {"they": {}}, {"they": {name: vague.findall(text) for name, text in code.items() if vague.search(text)}})
+
+
 def drawn_once(suite: Suite, page: Hands) -> None:
     """The modules that draw, those that lay out for them, and the package's own for a report, which asks them, have few lines together."""
     found = scripts(SCRIPTS)
@@ -110,4 +117,4 @@ def tools_of_page(suite: Suite, page: Hands) -> None:
         print(f"  nothing was tried of types in tools: mypy is not installed for {sys.executable}")
 
 
-GROUPS = [types_of_scripts, lint_of_scripts, what_scripts_share, folders, words_of_edits, drawn_once, tools_of_page]
+GROUPS = [types_of_scripts, lint_of_scripts, what_scripts_share, folders, words_of_edits, names_say_what, drawn_once, tools_of_page]

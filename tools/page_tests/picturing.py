@@ -335,6 +335,20 @@ def of_a_day(suite: Suite, page: Hands) -> None:
     ways = page.ask("[...document.querySelectorAll('#diagram path[stroke-width=\"2.6\"]')].map(each => each.getAttribute('d').match(/[ML]/g).length)")
     suite.holds(f"the night is whole in two periods: {ways}", ways.count(4) >= 2)
     page.press("two-periods")
+    wheel(page, over(page, "diagram", 0.8), -700)
+    suite.holds(f"by the wheel: {told(page)}", told(page) != "")
+    page.press("zoom-all")
+    wheel(page, page.minute(3, 700), -700, CTRL)
+    suite.holds(f"by the wheel on a strip: {told(page)}", told(page) != "")
+    page.press("zoom-all")
+    page.call("Emulation.setTouchEmulationEnabled", enabled=True, maxTouchPoints=2)
+    page.frame()
+    x, y = over(page, "diagram", 0.5)
+    pinch(page, [((x - 20, y + 40), (x - 90, y + 40)), ((x + 20, y + 40), (x + 90, y + 40))])
+    suite.holds(f"by two fingers: {told(page)}", told(page) != "")
+    suite.note("nothing more is changed", {"lines": ["fix 1 1225"]}, {"lines": page.lines()})
+    touch(page, is_on=False)
+    page.again()
 
 
 GROUPS = [of_the_screen, by_wheel, by_keys_and_drags, by_fingers, of_the_map, two_periods, whole_screen, on_a_phone, of_a_day]

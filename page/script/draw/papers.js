@@ -5,6 +5,8 @@ import { element, find } from '../base/elements.js';
 import { labelOf } from '../session/names.js';
 
 const ALL = { lines: null, boards: new Set() };
+// With more lines what is printed is asked first.
+const FEW = 20;
 let kept = ALL;
 
 export const linesOnPaper = ({ lines }) => lines.filter(({ name }) => !kept.lines || kept.lines.has(name));
@@ -31,6 +33,7 @@ export const papersPanel = {
 export const startPapers = () => {
   const dialog = find('papers');
   find('choose-paper').addEventListener('click', show);
+  find('print').addEventListener('click', () => kept === ALL && display.view.lines.length > FEW ? show() : window.print());
   find('papers-close').addEventListener('click', () => dialog.close());
   dialog.addEventListener('close', () => {
     const lines = chosenIn('lines');

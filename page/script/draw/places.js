@@ -6,13 +6,13 @@ const MOST_ROUNDS = 200, MOST_MOVES = 600000, RATIO = 2;
 // Places at which stations are about as far apart as the ways between them are long; parts that nothing joins are beside each other. They
 // are worked out step by step.
 export const layOut = function* (stations, lengths) {
-  const apart = yield* distances(stations, lengths), all = [...lengths.values()], laid = new Map(), parts = [];
+  const apart = yield* distances(stations, lengths), all = [...lengths.values()], laid = new Map(), layouts = [];
   for (const part of partsOf(apart)) {
     const places = yield* layOutPart(part.map(one => part.map(other => apart[one][other])));
-    parts.push(places);
+    layouts.push(places);
     part.forEach((station, place) => laid.set(stations[station], places[place]));
   }
-  inRows(parts, all.reduce((sum, length) => sum + length, 1) / (all.length + 1));
+  inRows(layouts, all.reduce((sum, length) => sum + length, 1) / (all.length + 1));
   return new Map(stations.map(station => [station, laid.get(station)]));
 };
 
@@ -33,9 +33,9 @@ const boxOf = places => [0, 1].map(axis => {
   return { least, size: Math.max(...all) - least };
 });
 
-// Moves the places of parts into rows, of the highest parts first, with some room between them.
-const inRows = (parts, room) => {
-  const boxed = parts.map(places => ({ places, box: boxOf(places) })).sort((one, other) => other.box[1].size - one.box[1].size);
+// Moves the layouts of parts into rows, the highest first, with some room between them.
+const inRows = (layouts, room) => {
+  const boxed = layouts.map(places => ({ places, box: boxOf(places) })).sort((one, other) => other.box[1].size - one.box[1].size);
   const widest = Math.sqrt(RATIO * boxed.reduce((sum, { box: [across, down] }) => sum + (across.size + room) * (down.size + room), 0));
   let [x, y, high] = [0, 0, 0];
   for (const { places, box: [across, down] } of boxed) {
