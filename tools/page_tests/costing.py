@@ -105,7 +105,7 @@ def priced_as_told(suite: Suite, page: Hands) -> None:
     page.until(WHOLE)
     suite.holds(f"nothing is held: {page.text(SUMMARY)}", page.text(SUMMARY).startswith("Each minute is as good as any: nothing else is held"))
     page.ask("Page.step(['fix 21 26'])")
-    page.until(f"{WHOLE} && !document.querySelector('{SUMMARY}').textContent.includes('known')")
+    page.until(f"{WHOLE} && /^Best/.test(document.querySelector('{SUMMARY}').textContent) && !document.querySelector('{SUMMARY}').textContent.includes('known')")
     minutes = list(range(60))
     wanted: Dict[str, Any] = {"costs": page.ask(COSTS_OF_RUNS.replace("MINUTES", str(minutes)).replace("EVENT", "1"))}
     told = [looked(page, minute, 60) for minute in minutes]
