@@ -14,7 +14,7 @@ from tests.harness import Suite, within
 CLEARANCE = 26
 
 
-def laid_out_by(page: Hands, stations: Sequence[str], lengths: Sequence[Tuple[str, int]]) -> Any:
+def laid_out_by(page: Hands, stations: Sequence[str], lengths: Sequence[Tuple[Sequence[str], int]]) -> Any:
     """The places of stations between some of which tracks of a length lie."""
     rows = [[json.dumps(sorted(ends)), length] for ends, length in lengths]
     tracks = f"new Map({json.dumps(rows)}.map(([ends, length]) => [Page.trackOf(...JSON.parse(ends)), length]))"
@@ -31,8 +31,8 @@ def distances(suite: Suite, page: Hands) -> None:
     suite.holds("a way over two tracks", abs(dist(apart["a"], apart["c"]) - 5) <= 0.5 and abs(dist(apart["a"], apart["b"]) - 2) <= 0.5)
     places = laid_out_by(page, ["a", "b", "c"], [("ab", 10)])
     suite.note("a part of its own", {"places": 3}, {"places": len({(round(x), round(y)) for x, y in places.values()})})
-    ways = [(f"{one}{part} {other}{part}".split(), 10) for part in range(7) for one, other in ("ab", "bc", "cd", "da", "ac")]
-    places = laid_out_by(page, [f"{station}{part}" for part in range(7) for station in "abcd"], ways)
+    tracks = [([f"{station}{part}" for station in ends], 10) for part in range(7) for ends in ("ab", "bc", "cd", "da", "ac")]
+    places = laid_out_by(page, [f"{station}{part}" for part in range(7) for station in "abcd"], tracks)
     boxes = [[sorted(places[f"{station}{part}"][axis] for station in "abcd")[::3] for axis in (0, 1)] for part in range(7)]
     over = [pair for pair in combinations(boxes, 2) if all(max(one[0], other[0]) < min(one[1], other[1]) for one, other in zip(*pair, strict=True))]
     suite.note("parts are beside each other", {"over": [], "rows": True}, {"over": over, "rows": 1 < len({round(box[1][0]) for box in boxes}) < 7})
