@@ -78,10 +78,10 @@ def version(suite: Suite, top: Path) -> None:
 
 
 def one_version(suite: Suite) -> None:
-    """VERSION has the newest version of the changelog, and says where more stands above it; all that tell one tell this."""
-    headings = re.findall(r"^## \[?([\w.]+)", (TOP / "CHANGELOG.md").read_text(), re.M)
-    numbered = next(each for each in headings if each[0].isdigit())
-    suite.note("VERSION", {"version": numbered if headings[0] == numbered else f"{numbered}+unreleased"}, {"version": VERSION})
+    """VERSION is the newest released version of the changelog, and `+unreleased` if there is one above it; all others are the same."""
+    headings = re.findall(r"^## ([\d.]+), (.+)", (TOP / "CHANGELOG.md").read_text(), re.M)
+    released = next(number for number, day in headings if re.fullmatch(r"\d{4}-\d\d-\d\d", day))
+    suite.note("VERSION", {"version": released if headings[0][0] == released else f"{released}+unreleased"}, {"version": VERSION})
     cargo = re.findall(r'^version = "(.*)"$', (TOP / "embedded/rust/Cargo.toml").read_text(), re.M)
     suite.note("the version for Cargo", {"version": [VERSION]}, {"version": cargo})
     program = re.findall(r'VERSION: &str = "(.*)";$', (TOP / "crates/pesp_shell/src/version.rt").read_text(), re.M)
