@@ -1,6 +1,6 @@
 """`python3 -m pespbench SUBCOMMAND ..`: each module below has a function `add_parser(subparsers)`.
 
-It adds its parser and says by `set_defaults(run=..)` what is run; `run(words)` gives the exit status.
+It adds its parser and sets by `set_defaults(run=..)` what runs; `run(words)` returns the exit status.
 """
 
 from __future__ import annotations
@@ -20,25 +20,25 @@ MODULES = ["shell", "asking", "search", "mend", "why", "helps", "report", "compa
 
 
 class Parser(argparse.ArgumentParser):
-    """A parser that tells wrong words so that they do not steer a terminal."""
+    """A parser whose error messages cannot steer a terminal."""
 
     def error(self, message: str) -> NoReturn:
-        """Tells what is wrong, and exits with status 2."""
+        """Reports the error, and exits with status 2."""
         super().error(shown(message))
 
 
 def describe(subparsers: "argparse._SubParsersAction[Parser]") -> None:
-    """Has the help of each subcommand begin with what the list of subcommands says of it."""
+    """Starts the help of each subcommand with its line in the list of subcommands."""
     for each in subparsers._choices_actions:
         told = str(each.help)
         subparsers.choices[each.dest].description = f"{told[0].upper()}{told[1:]}."
 
 
 def main(words: Optional[List[str]] = None) -> int:
-    """Runs a subcommand, and gives the exit status.
+    """Runs a subcommand, and returns the exit status.
 
-    It is 0, or 1 for a fault that is told on standard error, 2 for wrong words, and 128 with the number of the signal where
-    one ended it.
+    It is 0, or 1 for a fault that standard error reports, 2 for wrong arguments, and 128 plus the number of the signal that
+    ended it.
     """
     parser = Parser(prog="python3 -m pespbench", description="Commands of pespbench for planners.")
     parser.add_argument("--version", action="version", version=f"pespbench-py {VERSION}")

@@ -8,7 +8,7 @@ from typing import ClassVar, Dict, Iterator, List, Mapping, Optional, Sequence, 
 
 
 def runs(numbers: Sequence[int]) -> List[Tuple[int, int]]:
-    """The runs of neighbours among ascending numbers, each with its first and its last."""
+    """The runs of consecutive numbers in an ascending sequence, each with its first and its last."""
     found: List[Tuple[int, int]] = []
     for number in numbers:
         if found and found[-1][1] == number - 1:
@@ -20,7 +20,7 @@ def runs(numbers: Sequence[int]) -> List[Tuple[int, int]]:
 
 @dataclass(frozen=True)
 class Domain:
-    """When an event can be: `residues` ascend, each below the period. An empty one says that no timetable is possible."""
+    """When an event can be: `residues` ascend, each below the period. If it is empty, no timetable is possible."""
 
     event: int
     residues: Tuple[int, ...]
@@ -29,17 +29,17 @@ class Domain:
         return iter(self.residues)
 
     def runs(self) -> str:
-        """The residues as text, as in `0-3, 42-53, 58`; `none` where there is none."""
+        """The residues as text, as in `0-3, 42-53, 58`; `none` if there is none."""
         return ", ".join(str(a) if a == b else f"{a}-{b}" for a, b in runs(self.residues)) or "none"
 
     def text(self) -> str:
-        """The domain line of the program, without its end."""
+        """The domain line of the program, without its line feed."""
         return " ".join([f"{self.event}:", *map(str, self.residues)])
 
 
 @dataclass(frozen=True)
 class Tension:
-    """What an activity takes in the working timetable: `tension` is its lower bound and `slack` together."""
+    """The tension of an activity in the working timetable, which is its lower bound plus `slack`."""
 
     activity: int
     tension: int
@@ -49,7 +49,7 @@ class Tension:
         return iter((self.activity, self.tension, self.slack))
 
     def text(self) -> str:
-        """The line of the program, without its end."""
+        """The line of the program, without its line feed."""
         return f"{self.activity} {self.tension} {self.slack}"
 
 
@@ -121,10 +121,10 @@ class Infeasible:
 
 @dataclass(frozen=True)
 class Stopped:
-    """A search came to its limit. It says nothing of whether there are other timetables, or better ones.
+    """A search reached its limit. Other timetables, or better ones, may exist.
 
-    `cost` and `times` are those of the best timetable that it had found, which meets everything; they are None and empty
-    where it had found none. Searches of `Bench.search` set `lower_bound`, as far as the engine reports it. Comparisons ignore it.
+    `cost` and `times` are those of the best timetable found, which meets everything; they are None and empty if none was found.
+    Searches of `Bench.search` set `lower_bound`, if the engine reports one. Comparisons ignore it.
     """
 
     cost: Optional[int] = None
@@ -137,7 +137,7 @@ class Stopped:
         return iter(self.times.items())
 
     def is_below(self, cost: Optional[int]) -> bool:
-        """Whether there is a timetable, and it is cheaper than a cost, or than none."""
+        """Whether there is a timetable that is cheaper than this cost, or any if the cost is None."""
         return self.cost is not None and (cost is None or self.cost < cost)
 
     def text(self) -> str:

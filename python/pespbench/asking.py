@@ -37,7 +37,7 @@ def asked(lines: Iterable[str]) -> Iterator[str]:
 
 
 def is_accepted(bench: Bench, command: str, form: Optional[str]) -> bool:
-    """Tells the answer to a command, a table with a blank line below it; whether it is neither a refusal nor a fault."""
+    """Prints the answer to a command, a table with a blank line below it; whether it is neither a refusal nor a fault."""
     [outcome] = bench.many([command])
     tell(in_form(form, table_of(outcome, command), text_of(command, outcome)) + ("\n" if form == "csv" else ""))
     return not isinstance(outcome, (Refused, Fault))

@@ -1,4 +1,4 @@
-"""The timetable of a search by stations, where there are labels of them: who arrives and leaves at each, by the minute."""
+"""The timetable of a search by stations, if labels name them: which trains arrive and leave at each, by the minute."""
 
 from __future__ import annotations
 
@@ -13,7 +13,7 @@ DONE = {"departure": "leaves", "arrival": "arrives"}
 
 
 def timetable_text(found: Found, names: Names, period: int) -> str:
-    """What a search found, by stations; where no event has one, as the program returns it."""
+    """The result of a search, by stations; as the program returns it if no event has a station."""
     if not any(label.station for label in names.labels.events.values()):
         return text_of("optimum", found)
     boards: Dict[str, List[Tuple[int, str]]] = {}

@@ -22,7 +22,7 @@ from pespbench.tables import Given, network_of
 from pespbench.work import Work
 
 Path = Union[str, "os.PathLike[str]"]
-# The comment in which a script tells its period.
+# The comment of a script that has its period.
 PERIOD_COMMENT = re.compile("[ \t]*#[ \t]+period[ \t]+([0-9]{1,9})(?=[ \t\r]|$)")
 
 
@@ -134,11 +134,11 @@ class Bench(Questions):
         journal: Union[int, str] = "all",
         patience: Optional[float] = None,
     ) -> "Bench":
-        """Opens a Network, rows of activities, or a DataFrame of such rows, as `rows` gives them.
+        """Opens a Network, rows of activities, or a DataFrame of such rows, as `rows` returns them.
 
         A row is an Activity, six numbers, or has columns `activity`, `from_event`, `to_event`, `lower`, `upper` and `weight`,
-        and perhaps `kind`; more are left alone. The period is that of a Network where none is given, and else 60. Raises
-        TypeError, KeyError and ValueError for rows that are none, and what `from_script` and `set_times` raise.
+        and perhaps `kind`; other columns are ignored. The default period is that of a Network, else 60. Raises TypeError,
+        KeyError and ValueError for invalid rows, and what `from_script` and `set_times` raise.
         """
         network, kinds = network_of(given, period)
         bench = cls.from_script(
@@ -194,7 +194,7 @@ class Bench(Questions):
         """Makes these the working timetable, in one write; events that are left out then have no time.
 
         Either all times are set, or none. Raises Refused for a missing event (2) and for a time that is not below the period (4),
-        ValueError for no times, as in the result of a search that found no timetable, TypeError for a value that is no whole
+        ValueError for no times, as in the result of a search that found no timetable, TypeError for a value that is not a whole
         number, and what each command raises.
         """
         wanted = {index(event): index(time) for event, time in dict(times).items()}
@@ -218,7 +218,7 @@ class Bench(Questions):
             raise ValueError("there is no timetable to take: the search found none, or returned its cost alone")
         self.set_times(found.times)
 
-    # The two that a local search asks most often: they go the shortest way where it ends well, and else as all others.
+    # The two calls that a local search makes most often use a direct call of the engine if it succeeds, and otherwise a line.
 
     def time(self, event: int, time: int) -> None:
         """Sets the event's time, below the period, in the working timetable."""

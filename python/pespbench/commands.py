@@ -1,4 +1,4 @@
-"""Command lines: what may be sent as one, and which change something."""
+"""Command lines: what may be sent as one, and which of them change something."""
 
 from __future__ import annotations
 
@@ -8,11 +8,11 @@ from typing import List, Tuple
 LONGEST_LINE = 4_096
 MOST_LINES = 1_000_000
 MOST_NODES = 1_000_000_000_000
-# The bounds of a span are this far from 0 at most.
+# The greatest absolute value of a bound of a span.
 GREATEST_BOUND = 1_000_000
 
 TWO_WORDS = ("add", "drop")
-# What may take long.
+# The commands that may take long.
 SEARCHES = ("optimum", "try", "adopt")
 # Beside `adopt`, these are the commands that change the network or the working timetable.
 CHANGES = {
@@ -21,7 +21,7 @@ CHANGES = {
 
 
 def checked(command: str) -> str:
-    """A command line that has just one reply. Raises ValueError for any other text, and TypeError for what is no text."""
+    """A command line that has exactly one reply. Raises ValueError for any other text, and TypeError for other values."""
     if not isinstance(command, str):
         raise TypeError(f"a command is a str, and not {type(command).__name__}")
     words = command.split()
@@ -39,6 +39,6 @@ def name_of(command: str) -> str:
 
 
 def split(command: str) -> Tuple[str, List[int]]:
-    """The name and the numbers of a command that was accepted."""
+    """The name and the numbers of an accepted command."""
     name = name_of(command)
     return name, [int(word) for word in command.split()[len(name.split()) :]]

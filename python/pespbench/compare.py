@@ -1,4 +1,4 @@
-"""Two networks with their timetables beside each other: changed spans, moved times, cost by kind."""
+"""Two networks and their timetables compared: changed spans, moved times, cost by kind."""
 
 from __future__ import annotations
 
@@ -22,9 +22,9 @@ NO_TIME = 11
 
 @dataclass(frozen=True)
 class Side:
-    """One of the two: a network with its working timetable and what the program says of it.
+    """One of the two: a network with its working timetable, and the program's replies about it.
 
-    Where a time is missing, `cost` and `violations` are None, and `tensions` is empty.
+    If a time is missing, `cost` and `violations` are None, and `tensions` is empty.
     """
 
     network: Network
@@ -36,11 +36,11 @@ class Side:
 
     @classmethod
     def of(cls, bench: Bench) -> Side:
-        """What a bench is at present.
+        """The present state of a bench.
 
         Raises:
             Ended: the program ended.
-            Refused: the program refused for another reason than a missing time.
+            Refused: the program refused for a reason other than a missing time.
         """
         copy = bench.network.copy()
         times = dict(bench.times)
@@ -61,13 +61,13 @@ class Side:
 
 
 def compare(before: Side, after: Side) -> str:
-    """What is other after the change than before, as lines of text."""
+    """The differences after the change, as lines of text."""
     parts = compared(before, after)
     return "\n".join("\n".join([title, *(f"  {row}" for row in rows or ["no change"])]) + "\n" for title, rows in parts.items())
 
 
 def compared(before: Side, after: Side) -> dict[str, list[str]]:
-    """The lines of each part of what is other."""
+    """The lines of each group of differences."""
     names = Names(merged(before.labels, after.labels), {**before.network.activities, **after.network.activities})
     return {
         "Network": [*activity_changes(before.network, after.network, names), *event_changes(before.network, after.network, names)],
@@ -84,12 +84,12 @@ def table_of(before: Side, after: Side) -> Table:
 
 
 def merged(before: Labels, after: Labels) -> Labels:
-    """All labels, those after before those that stood before."""
+    """All labels; those after the change replace those before it."""
     return Labels({**before.events, **after.events}, {**before.activities, **after.activities})
 
 
 def activity_changes(before: Network, after: Network, names: Names) -> Iterator[str]:
-    """Activities that came, went or changed, ascending by number."""
+    """Activities that were added, dropped or changed, ascending by number."""
     for number in sorted({*before.activities, *after.activities}):
         old, new = before.activities.get(number), after.activities.get(number)
         if old is None or new is None:
@@ -99,7 +99,7 @@ def activity_changes(before: Network, after: Network, names: Names) -> Iterator[
 
 
 def changes(old: Activity, new: Activity, names: Names) -> Iterator[str]:
-    """What is other of an activity."""
+    """The differences of an activity."""
     if (old.from_event, old.to_event) != (new.from_event, new.to_event):
         yield ", was ".join(f"from {names.event(each.from_event)} to {names.event(each.to_event)}" for each in (new, old))
     if (old.lower, old.upper) != (new.lower, new.upper):
@@ -109,7 +109,7 @@ def changes(old: Activity, new: Activity, names: Names) -> Iterator[str]:
 
 
 def event_changes(before: Network, after: Network, names: Names) -> Iterator[str]:
-    """Events that came, went or are held elsewhere, ascending by number."""
+    """Events that were added or dropped, or whose windows changed, ascending by number."""
     for event in sorted({*before.windows, *after.windows}):
         if event not in before.windows or event not in after.windows:
             yield f"{names.event(event)}: {'added' if event in after.windows else 'dropped'}"
@@ -121,12 +121,12 @@ def event_changes(before: Network, after: Network, names: Names) -> Iterator[str
 
 
 def held_text(window: Optional[Window], period: int) -> str:
-    """Where an event is held."""
+    """The window of an event, in words."""
     return "not held" if window is None else f"held {window_text(window.first, window.length, period)}"
 
 
 def moved_times(before: Side, after: Side, names: Names) -> Iterator[str]:
-    """The times that are other, ascending by event, or that all times moved alike; what nothing holds is turned to agree first."""
+    """The times that differ, ascending by event, or one line if all moved alike; what nothing holds is first shifted to agree."""
     period = after.network.period
     times = dict(after.times)
     for events, turn in turns(after.network, times, before.times) if before.network.period == period else ():
@@ -144,12 +144,12 @@ def moved_times(before: Side, after: Side, names: Names) -> Iterator[str]:
 
 
 def clock_of(event: int, times: Mapping[int, int], period: int) -> str:
-    """The time of an event, where it has one."""
+    """The time of an event, if it has one."""
     return clock(times[event], period) if event in times else "no time"
 
 
 def moved(old: int, new: int, period: int) -> int:
-    """By how many minutes a time moved, the shorter way; later where both are as long."""
+    """By how many minutes a time moved, the shorter way; later if both ways are equally long."""
     later = (new - old) % period
     return later if 2 * later <= period else later - period
 
@@ -192,7 +192,7 @@ def add_parser(subparsers: argparse._SubParsersAction[argparse.ArgumentParser]) 
 
 
 def run(words: argparse.Namespace) -> int:
-    """Tells what is other, on standard output."""
+    """Prints the differences."""
     with open_network(words) as bench:
         before = Side.of(bench)
     words.network, words.fixed, words.times = words.other, words.other_fixed, words.other_times

@@ -13,7 +13,7 @@ from pespbench.network import Network
 from pespbench.replies import BEGINNINGS
 
 COMMANDS = {*BEGINNINGS, "domain"}
-# What the numbers after a command name, as far as they name something that is there.
+# What the numbers after a command name, if it must exist.
 EVENT, ACTIVITY, NEW = "event", "activity", "new"
 NUMBERS = {
     **dict.fromkeys(["drop event", "fix", "window", "unfix", "domain", "time", "untime"], [EVENT]),
@@ -25,7 +25,7 @@ OF_FOLDERS = ["save"]
 
 
 def candidates(before: Sequence[str], begun: str, network: Network, more: Collection[str]) -> List[str]:
-    """The words that begin with what is begun, after those before it; `more` are the first words that the shell adds."""
+    """The words that complete `begun` after the words `before`; `more` are additional first words of the shell."""
     if list(before) == OF_FOLDERS:
         return sorted(f"{path}/" for path in glob.glob(f"{glob.escape(begun)}*") if os.path.isdir(path))
     names = [name.split() for name in {*COMMANDS, *more}]
@@ -43,7 +43,7 @@ def numbers(before: Sequence[str], network: Network) -> List[str]:
 
 
 class Completion:
-    """Answers readline, which asks for one candidate after the other; `line` gives what was typed up to the cursor."""
+    """Answers readline, which asks for one candidate after the other; `line` is what was typed up to the cursor."""
 
     def __init__(self, network: Callable[[], Network], more: Collection[str], line: Callable[[], str]) -> None:
         self._network, self._more, self._line = network, more, line
@@ -57,10 +57,10 @@ class Completion:
 
 
 def complete_by(network: Callable[[], Network], more: Collection[str]) -> None:
-    """Has Tab complete what is typed, where Python has readline."""
+    """Completes typed words at Tab, if Python has readline."""
     with suppress(ImportError):
         readline = import_module("readline")
         readline.set_completer_delims(" ")
         readline.set_completer(Completion(network, more, lambda: str(readline.get_line_buffer()[: readline.get_endidx()])))
-        # Some systems have another library under its name.
+        # Some systems provide another library under its name.
         readline.parse_and_bind("bind ^I rl_complete" if "libedit" in (readline.__doc__ or "") else "tab: complete")

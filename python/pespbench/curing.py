@@ -1,4 +1,4 @@
-"""What a fault of a file comes from, and what mends it: UTF-16, tabs, decimal commas, another file in its place, or no file.
+"""The cause and the remedy of a fault in a file: UTF-16, tabs, decimal commas, a file of another kind, or no file.
 
 The page says the same of a file's form (page/script/files/helping.js).
 """
@@ -17,10 +17,10 @@ UTF_16 = "The file is UTF-16. Save it as UTF-8, in a spreadsheet as “CSV UTF-8
 TABS = "Tabs stand between its fields. Save it with semicolons between them, or with commas."
 DECIMAL = "It has decimal commas. Write whole numbers, as 2, or with a point, as 2.0."
 FAULT = re.compile("pespbench: (activities|fixed|times) file(?:, record ([0-9]{1,9}): | cannot be read$| is too long$)")
-# What each is a file of, and how many fields its rows have.
+# The kind of each file, and how many fields its rows have.
 KINDS = {"activities": "activities", "fixed": "times", "times": "times"}
 WIDTHS = {"activities": 6, "times": 2}
-# How the header of each file begins.
+# The first fields of each file's header.
 HEADERS = {
     ("activity", "from"): "activities", ("event", "time"): "times", ("event", "first"): "windows", ("event", "line"): "labels",
     ("activity", "kind"): "labels", ("station", "x"): "places",
@@ -29,12 +29,12 @@ NUMBER = re.compile("[+-]?[0-9]+([.]0*)?")
 
 
 def file_fault(path: Path, record: int, text: str, kind: str) -> FileFault:
-    """The fault of a record of a file of some kind, with its cure."""
+    """The fault of a record of a file of some kind, with its remedy."""
     return FileFault(os.fspath(path), record, text, cure_of(path, record, kind))
 
 
 def cured(ended: Ended, paths: Mapping[str, Optional[Path]]) -> Ended:
-    """The end of a program with the file and the cure, where it was a fault of one of the files."""
+    """The end of a program, with the file and the remedy if it was a fault of one of the files."""
     fault = FAULT.match(ended.text)
     path = paths[fault[1]] if fault else None
     if fault is None or path is None:
@@ -44,7 +44,7 @@ def cured(ended: Ended, paths: Mapping[str, Optional[Path]]) -> Ended:
 
 
 def unreadable_text(path: Path) -> str:
-    """Why a file cannot be read, where its name alone says it."""
+    """Why a file cannot be read, if its name alone shows it."""
     if not os.path.lexists(path):
         return "There is no such file."
     if os.path.isdir(path):
@@ -53,7 +53,7 @@ def unreadable_text(path: Path) -> str:
 
 
 def cure_of(path: Path, record: int, kind: str) -> str:
-    """What a record's fault in a file of some kind comes from, and what mends it; an empty text where nothing is known."""
+    """The cause and the remedy of a record's fault in a file of some kind; an empty text if unknown."""
     if not os.path.isfile(path):
         return ""
     try:
@@ -72,7 +72,7 @@ def cure_of(path: Path, record: int, kind: str) -> str:
 
 
 def kind_of(path: Path) -> str:
-    """What a file is one of, by its header or its first row; an empty text where they do not say it. Raises OSError and FileFault."""
+    """The kind of a file, by its header or its first row; an empty text if they do not show it. Raises OSError and FileFault."""
     for _, fields in islice(records(path), 2):
         named = named_by(fields)
         numbered = next((kind for kind, width in WIDTHS.items() if width == len(fields)), "")
@@ -82,16 +82,16 @@ def kind_of(path: Path) -> str:
 
 
 def is_utf_16(start: bytes) -> bool:
-    """Whether a file begins as UTF-16 does, with its mark or with a byte of 0."""
+    """Whether a file is UTF-16, by its byte order mark or a byte of 0 at its start."""
     return start[:2] in (b"\xff\xfe", b"\xfe\xff") or 0 in start
 
 
 def named_by(header: List[str]) -> str:
-    """What a file is one of, by its header; an empty text where that does not say it."""
+    """The kind of a file, by its header; an empty text if that does not show it."""
     return HEADERS.get((header[0].lower(), header[1].lower()), "") if len(header) > 1 else ""
 
 
 def has_decimal_comma(fields: List[str], width: Optional[int]) -> bool:
-    """Whether one stands in a field, among semicolons, or makes one number more of it, among commas."""
+    """Whether a decimal comma is in a field, among semicolons, or splits a number in two, among commas."""
     is_cut = width is not None and len(fields) > width and all(re.fullmatch("[+-]?[0-9]+", field) for field in fields)
     return is_cut or any(re.fullmatch("[+-]?[0-9]+,[0-9]+", field) for field in fields)

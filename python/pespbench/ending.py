@@ -1,4 +1,4 @@
-"""What ends a command from outside: SIGTERM and SIGHUP are raised, as Ctrl-C is, so that it ends in order."""
+"""Signals that end a command: SIGTERM and SIGHUP are raised as exceptions, like Ctrl-C, so that it ends in order."""
 
 from __future__ import annotations
 
@@ -19,18 +19,18 @@ class Terminated(BaseException):
         self.number = number
 
 
-# What ends a search before its time; what it found until then is kept.
+# The exceptions that end a search early; what it found until then is kept.
 INTERRUPTS = (KeyboardInterrupt, Terminated)
 
 
 def status_of(interrupt: BaseException) -> int:
-    """The exit status of a command that was ended so: 128 and the number of the signal."""
+    """The exit status of a command that one of these ended: 128 plus the number of the signal."""
     return 128 + (interrupt.number if isinstance(interrupt, Terminated) else signal.SIGINT)
 
 
 @contextmanager
 def terminated() -> Iterator[None]:
-    """Within, the first SIGTERM or SIGHUP raises Terminated; one that is ignored stays so, as below `nohup`."""
+    """In this context the first SIGTERM or SIGHUP raises Terminated; an ignored one, as below `nohup`, remains ignored."""
     numbers = [number for number in SIGNALS if signal.getsignal(number) is signal.SIG_DFL]
     with _handled(numbers, _terminate):
         yield
@@ -38,14 +38,14 @@ def terminated() -> Iterator[None]:
 
 @contextmanager
 def uninterrupted() -> Iterator[None]:
-    """Within, Ctrl-C, SIGTERM and SIGHUP are ignored: for what is short and has to be done whole."""
+    """In this context Ctrl-C, SIGTERM and SIGHUP are ignored: for short steps that must be complete."""
     with _handled([signal.SIGINT, *SIGNALS], signal.SIG_IGN):
         yield
 
 
 @contextmanager
 def _handled(numbers: Sequence[signal.Signals], handler: "signal._HANDLER") -> Iterator[None]:
-    """Handles signals so within, where this is the thread that may."""
+    """Handles signals in this context, if this thread may."""
     if threading.current_thread() is not threading.main_thread():
         yield
         return

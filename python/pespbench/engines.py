@@ -1,5 +1,5 @@
-"""The engines of a bench: the program over its pipes, the page's module under Node instead, or the library in process. Only this
-file chooses one."""
+"""The engines of a bench: the program over its pipes, the page's module under Node, or the library in process. Only this file
+chooses one."""
 
 from __future__ import annotations
 
@@ -15,23 +15,23 @@ from pespbench.process import Process, find_program
 from pespbench.transport import Transport
 
 Path = Union[str, "os.PathLike[str]"]
-# The script that Node runs, and its words.
+# The script that Node runs, and its arguments.
 MODULE = [str(place_of(name)) for name in ("module/main.js", "pespbench.html", "module/module.js")]
 
 
 @dataclass(frozen=True)
 class Engine:
-    """What answers, `program`, `module` or `library`, and where it is; another process can be sent it."""
+    """The kind of an engine, `program`, `module` or `library`, and its path; it can be sent to another process."""
 
     name: str
     path: str
 
     @classmethod
     def of(cls, name: Union[str, "Engine"], program: Optional[Path] = None, library: Optional[Path] = None) -> "Engine":
-        """The engine of a name, or the one given.
+        """The engine of a name, or the given one.
 
-        Raises WrongWords for another name, or a library for a program, FileNotFoundError where there is no program, or no Node
-        for the module, and NoLibrary where there is no library, or no way to call it.
+        Raises WrongWords for another name, or a library for a program, FileNotFoundError if the program, or Node for the
+        module, is missing, and NoLibrary if the library is missing or cannot be called.
         """
         if isinstance(name, Engine):
             return name
@@ -53,12 +53,12 @@ class Engine:
         return cls(name, find_program(program))
 
     def opened(self, period: int, files: Mapping[str, Optional[Path]]) -> Transport:
-        """Opens the files `activities`, `fixed` and `times`, of which each may be missing.
+        """Opens the files `activities`, `fixed` and `times`, each of which may be missing.
 
-        Raises Ended where they or the period are not taken, NoLibrary, and OSError where the program cannot be started.
+        Raises Ended if they or the period are refused, NoLibrary, and OSError if the program cannot be started.
         """
         if self.name == "library":
-            # A Python without ctypes has the rest of the package.
+            # Without ctypes the rest of the package still works.
             from pespbench.in_process import InProcess, texts_of
             from pespbench.library import loaded
 

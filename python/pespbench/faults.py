@@ -47,7 +47,7 @@ class Fault(PespbenchError):
 
 
 class Ended(PespbenchError):
-    """The program ended before it had answered.
+    """The program ended before it answered.
 
     `status` is its exit status, negative if a signal ended it; `text` is its standard error. For a fault of a file `path` is the
     file, and `cure` names cause and remedy, if known; otherwise they are empty. Accepted changes are kept: the next use of the bench restarts
@@ -121,11 +121,11 @@ class FileFault(PespbenchError):
 
 
 def with_cure(text: str, cure: str) -> str:
-    """What is wrong, and then what mends it, where that is known."""
+    """The fault, followed by its remedy if that is known."""
     return f"{text}. {cure}" if cure else text
 
 
-# What the system's faults mean for the file that they name, by their kind or number.
+# The meaning of the system's errors for the file that they name, by class or number.
 MEANINGS = (
     (FileNotFoundError, "there is no file {}"), (IsADirectoryError, "{} is a folder, and no file"), (NotADirectoryError, "{} is below what is no folder"),
     (FileExistsError, "{} is there already"), (PermissionError, "{} may not be read or written"),
@@ -138,7 +138,7 @@ OTHERS = "{} cannot be read or written"
 
 
 def text_of(fault: Exception) -> str:
-    """The text of a fault: one of the system's is told in words, with the file that it names."""
+    """The text of a fault: an error of the system is described in words, with the file that it names."""
     if not isinstance(fault, OSError) or fault.strerror is None:
         return str(fault)
     form = next((form for kind, form in MEANINGS if isinstance(fault, kind)), NUMBERED.get(fault.errno or 0, OTHERS))
@@ -146,5 +146,5 @@ def text_of(fault: Exception) -> str:
 
 
 def name_of(file: object) -> str:
-    """The name of a file as a fault of the system has it."""
+    """The name of a file in an error of the system."""
     return os.fsdecode(file) if isinstance(file, (str, bytes, os.PathLike)) else str(file)

@@ -1,7 +1,7 @@
 """Files of activities, fixed times and times, read as the program reads them, and their texts (docs/FORMATS.md, *Files*).
 
-Events and activities are numbers, times and bounds whole units of time. What is wrong with a file is told by FileFault,
-with the record and in the words of the program. Limits on the numbers of rows are the program's alone.
+Events and activities are numbers, times and bounds whole units of time. FileFault reports a faulty file, with the
+record and in the words of the program. Only the program limits the number of rows.
 """
 
 from __future__ import annotations
@@ -28,7 +28,7 @@ def rows(path: Path) -> Iterator[Tuple[int, List[str]]]:
 
 
 def number_in(place: int, text: str, limits: range) -> int:
-    """The number that field `place` has. Raises ValueError with the text of its fault."""
+    """The number in field `place`. Raises ValueError with the text of its fault."""
     if not re.fullmatch("[+-]?[0-9]+", text):
         raise ValueError(f"field {place} is not a number")
     digits = text.lstrip("+-").lstrip("0")
@@ -40,7 +40,7 @@ def number_in(place: int, text: str, limits: range) -> int:
 
 
 def weight_in(place: int, text: str, limits: range) -> int:
-    """The weight that field `place` has, which may have a point with zeros after it. Raises ValueError."""
+    """The weight in field `place`, which may have a point followed by zeros. Raises ValueError."""
     whole, point, decimals = text.partition(".")
     if point and not re.fullmatch("[+-]?[0-9]+", whole) or not re.fullmatch("[0-9]*", decimals):
         raise ValueError(f"field {place} is not a number")
@@ -54,12 +54,12 @@ ACTIVITY: Sequence[Column] = [*[(number_in, NUMBERS)] * 3, *[(number_in, BOUNDS)
 TIME: Sequence[Column] = [(number_in, NUMBERS), (number_in, TIMES)]
 WINDOW: Sequence[Column] = [(number_in, NUMBERS), (number_in, RESIDUES), (number_in, RESIDUES)]
 EVENT: Sequence[Column] = [(number_in, NUMBERS)]
-# What is listed in a file, by how many columns it has.
+# What the rows of a file list, by their number of columns.
 KINDS = {6: "activities", 3: "windows", 2: "times", 1: "numbers"}
 
 
 def values(path: Path, columns: Sequence[Column], twice: str) -> Iterator[List[int]]:
-    """The numbers of each row; `twice` is what is told of a first number that comes again. Raises OSError and FileFault."""
+    """The numbers of each row; `twice` is the text for a repeated first number. Raises OSError and FileFault."""
     seen = set()
     for record, fields in rows(path):
         try:
@@ -77,13 +77,13 @@ def values(path: Path, columns: Sequence[Column], twice: str) -> Iterator[List[i
 
 
 def read_activities(path: Path) -> Dict[int, Activity]:
-    """The activities of a file, by number, in its order. Raises OSError and FileFault."""
+    """The activities of a file, by number, in the file's order. Raises OSError and FileFault."""
     listed = (Activity(*row) for row in values(path, ACTIVITY, "activity number is repeated"))
     return {activity.number: activity for activity in listed}
 
 
 def read_times(path: Path) -> Dict[int, int]:
-    """The times, or fixed times, of a file by event, as they stand there: not modulo a period. Raises OSError and FileFault."""
+    """The times, or fixed times, of a file by event, as written: not modulo a period. Raises OSError and FileFault."""
     return {event: time for event, time in values(path, TIME, "event is repeated")}
 
 
@@ -98,22 +98,22 @@ def read_events(path: Path) -> List[int]:
 
 
 def rows_text(header: Sequence[str], listed: Iterable[Sequence[int]]) -> str:
-    """The file of a header and rows of numbers."""
+    """The text of a file with a header and rows of numbers."""
     return "".join(f"{line}\n" for line in ["; ".join(header), *("; ".join(map(str, row)) for row in listed)])
 
 
 def activities_text(activities: Mapping[int, Activity]) -> str:
-    """The file of activities, ascending by number."""
+    """The text of a file of activities, ascending by number."""
     listed = [activities[number] for number in sorted(activities)]
     fields = [(each.number, each.from_event, each.to_event, each.lower, each.upper, each.weight) for each in listed]
     return rows_text(["activity", "from", "to", "lower", "upper", "weight"], fields)
 
 
 def times_text(times: Mapping[int, int]) -> str:
-    """The file of times, or of fixed times, ascending by event."""
+    """The text of a file of times, or of fixed times, ascending by event."""
     return rows_text(["event", "time"], sorted(times.items()))
 
 
 def windows_text(windows: Mapping[int, Window]) -> str:
-    """The file of windows, ascending by event."""
+    """The text of a file of windows, ascending by event."""
     return rows_text(["event", "first", "length"], [(event, windows[event].first, windows[event].length) for event in sorted(windows)])

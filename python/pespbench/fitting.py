@@ -1,4 +1,4 @@
-"""Whether an answer can be one about a network, since a program may be another one than it says."""
+"""Whether an answer fits the network, since a program may be another one than it claims."""
 
 from __future__ import annotations
 
@@ -9,13 +9,13 @@ from typing import Mapping
 from pespbench.answers import Domain, Optimum, Stopped, Tension, Violations
 from pespbench.network import Activity, Network
 
-# Above all costs (docs/FORMATS.md, *Limits*).
+# An upper limit of all costs (docs/FORMATS.md, *Limits*).
 COSTS = range(12_000_000_000_000_000)
 NUMBERS = range(1_000_000_000)
 
 
 def fits(answer: object, network: Network) -> bool:
-    """Whether its activities are those of the network, and its times those of a period; what is no such answer fits."""
+    """Whether the activities of an answer are those of the network, and its times below the period; other answers fit."""
     if isinstance(answer, int):
         return answer in COSTS
     if isinstance(answer, Domain):
@@ -28,7 +28,7 @@ def fits(answer: object, network: Network) -> bool:
 
 
 def are_known(violations: Violations, network: Network) -> bool:
-    """Whether what is violated is in the network."""
+    """Whether the violated activities and events are in the network."""
     return network.activities.keys() >= set(violations.activities) and network.windows.keys() >= set(violations.events)
 
 
@@ -52,12 +52,12 @@ def are_tensions(answer: Mapping[int, object], network: Network) -> bool:
 
 
 def is_tension(row: Tension, activity: Activity, period: int) -> bool:
-    """Whether an activity has such a slack, and that tension then."""
+    """Whether an activity can have this slack, and then has this tension."""
     return row.slack in range(period) and row.tension == activity.lower + row.slack
 
 
 def is_whole(network: Network) -> bool:
-    """Whether a network has windows of its period, and the ends of its activities."""
+    """Whether the windows of a network fit its period, and the ends of its activities exist."""
     windows = [window for window in network.windows.values() if window is not None]
     are_held = all(0 <= each.first < network.period and 1 <= each.length <= network.period for each in windows)
     if not all(number in NUMBERS for number in (*network.windows, *network.activities)):

@@ -122,9 +122,9 @@ def period_of(path: Path) -> int:
 
 
 def _complete(bench: "Bench", place: Path, timed: Optional[AnyPath], held: Optional[AnyPath]) -> None:
-    """Does what the program reads from no file: events without activities with their times, and windows.
+    """Adds what the program reads from no file: events without activities with their times, and windows.
 
-    Those of events that a file of fixed times holds that was given are left out.
+    Windows of events in a given file of fixed times are omitted.
     """
     listed, held_too = own_file(place, "events"), own_file(place, "windows")
     events = files.read_events(listed) if listed else []

@@ -18,7 +18,7 @@ FORMS = ("json", "csv")
 
 @dataclass(frozen=True)
 class Table:
-    """An answer by its name, what is said once, and rows below their titles."""
+    """An answer with its name, the facts stated once, and rows below their titles."""
 
     answer: str
     facts: Mapping[str, object] = field(default_factory=dict)
@@ -45,14 +45,14 @@ class Table:
 
 
 def cell(value: object) -> object:
-    """A value as it stands in CSV: several with blanks between them, and yes or no as in JSON."""
+    """A value in CSV: several are separated by blanks, and a truth value is yes or no, as in JSON."""
     if isinstance(value, bool):
         return "true" if value else "false"
     return " ".join(map(str, value)) if isinstance(value, (tuple, list)) else value
 
 
 def table_of(outcome: Outcome, command: str = "") -> Table:
-    """The table of a command's result; that of `adopt` has the optimum that it set."""
+    """The table of a command's result; that of `adopt` has the adopted optimum."""
     if outcome is None:
         return Table("ok")
     if isinstance(outcome, Refused):
@@ -71,7 +71,7 @@ def table_of(outcome: Outcome, command: str = "") -> Table:
 
 
 def table_of_rows(rows: List[Any], command: str) -> Table:
-    """The table of domains, or of tensions; where there are none, the command says of which."""
+    """The table of domains, or of tensions; if it is empty, the command decides which."""
     if command.startswith("domains") or rows and isinstance(rows[0], Domain):
         return Table("domains", {}, ["event", "times"], [[row.event, row.residues] for row in rows])
     return Table("tensions", {}, ["activity", "tension", "slack"], list(map(list, rows)))
@@ -83,12 +83,12 @@ def word_of(found: Found) -> str:
 
 
 def add_form(parser: argparse.ArgumentParser) -> None:
-    """Adds the options that ask for another form."""
+    """Adds the options for another form."""
     forms = parser.add_mutually_exclusive_group()
     for form in FORMS:
         forms.add_argument(f"--{form}", dest="form", action="store_const", const=form, help=f"write it as {form.upper()}")
 
 
 def in_form(form: Optional[str], table: Table, text: str) -> str:
-    """The table in a form, or the text where none was asked for."""
+    """The table in the requested form, or the text by default."""
     return text if form is None else table.text(form)

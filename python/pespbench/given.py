@@ -1,4 +1,4 @@
-"""Lines of standard input, and whether it has ended while one is answered."""
+"""Lines of standard input, and whether it ended while one was being answered."""
 
 from __future__ import annotations
 
@@ -17,14 +17,14 @@ from typing import Callable, Iterator, Optional
 from pespbench.commands import LONGEST_LINE
 
 PIECE = 65_536
-# Seconds: an input that ends so soon after the last line was written by a script, which waits for the answer.
+# Seconds: if the input ends this soon after the last line, a script wrote it, and waits for the answer.
 AT_ONCE = 0.1
-# Seconds between two looks at the input.
+# Seconds between two checks of the input.
 PAUSE = 0.2
 
 
 class Given:
-    """Standard input: at a terminal it is typed, with a history, and else it is read as it comes."""
+    """Standard input: typed at a terminal, with a history, or read as it arrives."""
 
     def __init__(self) -> None:
         self._file = descriptor_of_input()
@@ -35,11 +35,11 @@ class Given:
             with suppress(ImportError):
                 import_module("readline")
         if isinstance(sys.stdin, io.TextIOWrapper):
-            # A line that is no text is no command, which the program tells.
+            # A line that is not valid text is not a command, as the program replies.
             sys.stdin.reconfigure(errors="replace")
 
     def line(self, prompt: str) -> Optional[str]:
-        """The next line, or None at the end; of one that is too long for a command a part that is too long as well."""
+        """The next line, or None at the end; of a line too long for a command, a part that is too long as well."""
         if self.is_typed or self._file is None:
             try:
                 return input(prompt).strip()
@@ -60,7 +60,7 @@ class Given:
                 return line or None
 
     def is_over(self) -> bool:
-        """Whether nothing is left to be answered, and nothing more can come."""
+        """Whether no line is left to answer, and no more can arrive."""
         if self._held or self._file is None or not select.select([self._file], [], [], 0)[0]:
             return False
         if self.is_typed:
@@ -70,7 +70,7 @@ class Given:
 
     @contextmanager
     def kept_by(self, give_up: Callable[[], None]) -> Iterator["Ending"]:
-        """Within, what goes on when the input ends is given up: whoever gave it is gone. What a script gave is answered."""
+        """In this context, a running command is abandoned when its user ends the input; a script is answered."""
         ending = Ending(self, give_up)
         thread = threading.Thread(target=ending.watch, name="pespbench input", daemon=True)
         try:
@@ -91,7 +91,7 @@ class Ending:
         self.has_come = False
 
     def watch(self) -> None:
-        """Gives up what goes on, as often as it is begun again, once the input has ended."""
+        """Abandons the running command, each time it starts again, once the input has ended."""
         if self.is_answered.wait(AT_ONCE) or self._given.is_over():
             return
         while not self.is_answered.wait(PAUSE):
@@ -101,7 +101,7 @@ class Ending:
 
 
 def descriptor_of_input() -> Optional[int]:
-    """The descriptor of standard input, or None where it is none of the system's."""
+    """The descriptor of standard input, or None if it is not a file of the system."""
     try:
         return sys.stdin.fileno()
     except (OSError, ValueError):
@@ -109,6 +109,6 @@ def descriptor_of_input() -> Optional[int]:
 
 
 def bytes_in(file: int) -> int:
-    """How many bytes of a terminal can be read; where there are none and it can be read, it is at its end."""
+    """The number of bytes that can be read from a terminal; if it is readable and has none, it is at its end."""
     count: int = struct.unpack("i", fcntl.ioctl(file, termios.FIONREAD, bytes(4)))[0]
     return count

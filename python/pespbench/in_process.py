@@ -1,4 +1,4 @@
-"""A session of the library in this process, in the place of a program and its pipes."""
+"""A session of the library in this process, instead of a program and its pipes."""
 
 from __future__ import annotations
 
@@ -23,11 +23,11 @@ Kind = TypeVar("Kind")
 # The program's (docs/FORMATS.md, *Limits*).
 LEAST_PERIOD, GREATEST_PERIOD = 2, 1_440
 LONGEST_FILE = 67_108_864
-# The replies to searches fit into the first room, so that none is searched for twice: 20,000 events with their times.
+# The replies to searches fit into the first buffer, so that no search is repeated: 20,000 events with their times.
 ROOM = 1 << 19
-# Seconds: so soon Ctrl-C is heard at the latest.
+# Seconds: Ctrl-C is noticed within this time.
 LITTLE = 0.1
-# Seconds after its deadline at which a search by the call for it is given up, and lost with its session.
+# Seconds after its deadline at which a search by `pesp_search` is abandoned, and its session lost.
 PATIENCE = 1.0
 OK = b"ok\n"
 
@@ -35,25 +35,25 @@ OK = b"ok\n"
 class InProcess(Transport):
     """An open session of the library.
 
-    All but a search is answered where it is asked, within about a second: Ctrl-C is heard after it. A search goes on in
-    a thread of its own, while the caller waits for it, for Ctrl-C and for its deadline. A call of the library cannot be
-    stopped: one that is given up takes a processor until it has come to its end, and then the session's memory is given back;
-    or until the process ends, which waits for none. It meets no other session.
+    Everything but a search is answered in the calling thread, within about a second; Ctrl-C is noticed after it. A search
+    runs in a thread of its own, while the caller waits for it, for Ctrl-C and for its deadline. A call of the library cannot
+    be stopped: an abandoned one uses a processor until it ends, and then the session's memory is freed; or until the process
+    ends, which does not wait for it. It affects no other session.
     """
 
     def __init__(self, calls: Calls, period: int, texts: Mapping[str, bytes]) -> None:
-        """Opens it, of the bytes of files. Raises Ended where they or the period are not taken."""
+        """Opens a session from the bytes of files. Raises Ended if they or the period are refused."""
         if not (isinstance(period, int) and LEAST_PERIOD <= period <= GREATEST_PERIOD):
             raise Ended(2, f"pespbench: the period is not {LEAST_PERIOD} to {GREATEST_PERIOD}")
         self._calls = calls
         self._handle, self._told, self._cost = Handle(), Told(), ctypes.c_uint64()
-        # The addresses of what a call is given, as numbers.
+        # The addresses of a call's arguments, as numbers.
         self._at, self._told_at, self._cost_at = map(ctypes.addressof, (self._handle, self._told, self._cost))
         self._make_room(ROOM)
-        # Whether a call is under way in a thread, and what it came to; whether its session is let go, or ended from outside.
+        # Whether a call is running in a thread, and its result; whether its session is abandoned, or was ended from outside.
         self._is_searching = self._is_given_up = self._is_ended = False
         self._is_over = threading.Event()
-        # Where nobody closes it, or its search is given up, it goes with the last that uses it.
+        # If nobody closes it, or its search is abandoned, the session ends with its last user.
         self._let_go = weakref.finalize(self, let_go, calls, self._handle, os.getpid())
         self._let_go.atexit = False
         given = [part for name in FILES for part in (texts.get(name, b""), len(texts.get(name, b"")))]
@@ -66,7 +66,7 @@ class InProcess(Transport):
         self._room_at = ctypes.addressof(self._room)
 
     def replies(self, commands: Sequence[str], deadline: Optional[float] = None) -> Iterator[List[str]]:
-        """Asks commands one after another. Raises Ended, OutOfTime and BadReply."""
+        """Sends commands one after another. Raises Ended, OutOfTime and BadReply."""
         for command in commands:
             if self._is_ended:
                 raise given_up()
@@ -86,11 +86,11 @@ class InProcess(Transport):
             length: int = self._told.length
             if length <= self._length:
                 return ctypes.string_at(self._room_at, length)
-            # The reply to a question, which is asked once more.
+            # The reply to a question, which is repeated if it did not fit.
             self._make_room(length)
 
     def _in_time(self, ask: Callable[[], Kind], deadline: Optional[float]) -> Kind:
-        """What a call that may take long comes to."""
+        """The result of a call that may take long."""
         if deadline is not None and deadline <= clock.monotonic():
             raise OutOfTime
         self._is_over.clear()
@@ -110,7 +110,7 @@ class InProcess(Transport):
         return found
 
     def _is_over_by(self, deadline: Optional[float]) -> bool:
-        """Waits for the search a little at a time, since a signal that comes just before a wait does not end it."""
+        """Waits for the search in short intervals, since a signal just before a wait does not end it."""
         left = LITTLE
         while left > 0 and not self._is_over.wait(left):
             left = LITTLE if deadline is None else min(LITTLE, deadline - clock.monotonic())
@@ -121,14 +121,14 @@ class InProcess(Transport):
             came.append(ask())
         except Exception as raised:
             came.append(raised)
-        # Either this thread sees that it was given up, or who gives up sees that it does not search.
+        # Either this thread sees that it was abandoned, or the one that abandons it sees that it no longer searches.
         self._is_searching = False
         if self._is_given_up:
             self._let_go()
         self._is_over.set()
 
     def moved(self, moves: Sequence[Tuple[int, int]], deadline: Optional[float] = None) -> Iterator[AfterMove]:
-        """Sets times, each by a call and its cost by another, without a reply to be read where it is accepted."""
+        """Sets times, each by a call and its cost by another, without parsing a reply if it is accepted."""
         (ask, tell), at, told_at, cost_at = self._calls[1:3], self._at, self._told_at, self._cost_at
         room_at, length, told, cost = self._room_at, self._length, self._told, self._cost
         for event, time in moves:
@@ -142,7 +142,7 @@ class InProcess(Transport):
             yield from super().moved([(event, time)], deadline)
 
     def set_time(self, event: int, time: int) -> bool:
-        """Sets a time where that is accepted; else nothing has changed."""
+        """Sets a time if that is accepted; otherwise nothing has changed."""
         line = b"time %d %d" % (event, time)
         told = self._told
         self._calls.ask(self._at, line, len(line), self._room_at, self._length, self._told_at)
@@ -150,19 +150,19 @@ class InProcess(Transport):
         return is_ok
 
     def cost(self) -> Optional[int]:
-        """The cost where all events have times."""
+        """The cost if all events have times."""
         self._calls.cost(self._at, self._cost_at, self._told_at)
         return self._cost.value if self._told.status == DONE else None
 
     def searched(self, nodes: int, events: Sequence[int], deadline: Optional[float] = None) -> Optional[Reached]:
-        """What a search comes to, by the call for it, where the library has one, which says whether the next call goes on."""
+        """The result of `pesp_search`, if the library has it, with whether the next call resumes."""
         call = self._calls.search
         if call is None:
             return None
         return self._in_time(partial(self._reached, call, nodes, events), None if deadline is None else deadline + PATIENCE)
 
     def priced(self, event: int, time: int, nodes: int, deadline: Optional[float] = None) -> Optional[Reached]:
-        """What a search with the event at a time comes to, by the call for it, where the library has one."""
+        """The result of a search with the event at a time, by `pesp_price`, if the library has it."""
         return self._price(self._calls.price, (event, time, nodes), deadline)
 
     def priced_tension(self, activity: int, tension: int, nodes: int, deadline: Optional[float] = None) -> Optional[Reached]:
@@ -182,9 +182,9 @@ class InProcess(Transport):
         return Reached(found_by(came.state, came.cost, {}), came.lower_bound, goes_on=came.goes_on == 1)
 
     def tried(self, event: int, time: int) -> Optional[int]:
-        """By how much a time would change the cost, by the call for it, where the library has one and all events have times."""
+        """By how much a time would change the cost, by `pesp_try_move`, if the library has it and all events have times."""
         call, change = self._calls.try_move, ctypes.c_int64()
-        # Numbers that C would shorten are the program's to refuse.
+        # The program must refuse numbers that C would truncate.
         if call is None or self._is_ended or event not in NUMBERS or time not in RESIDUES:
             return None
         call(self._at, event, time, ctypes.addressof(change), self._told_at)
@@ -200,19 +200,19 @@ class InProcess(Transport):
         return Reached(found_by(came.state, came.cost, dict(zip(events, times))), came.lower_bound, goes_on=came.goes_on == 1)
 
     def kill(self) -> None:
-        """Gives the session's memory back, or leaves that to the search that is under way."""
+        """Frees the session's memory, or leaves that to the search that is running."""
         self._is_given_up = True
         if not self._is_searching:
             self._let_go()
 
     def end(self) -> None:
-        """Has who waits for a search, or asks next, be raised Ended, from whatever thread."""
+        """Makes whoever waits for a search, or asks next, receive Ended; any thread may call it."""
         self._is_ended = True
         self._is_over.set()
 
 
 def found_by(state: int, cost: int, times: Mapping[int, int]) -> Found:
-    """What the library says that a search found. Raises BadReply for a state that cannot be."""
+    """What the library returned about a search. Raises BadReply for an unknown state."""
     if state == BEST_SO_FAR:
         return Stopped(cost, times)
     if state == OPTIMUM:
@@ -223,23 +223,23 @@ def found_by(state: int, cost: int, times: Mapping[int, int]) -> Found:
 
 
 def let_go(calls: Calls, handle: Handle, owner: int) -> None:
-    """Closes a session; a process that was forked leaves its copy as it is, since a call may have been under way then."""
+    """Closes a session; a forked process leaves its copy alone, since a call may have been running at the fork."""
     if os.getpid() == owner:
         calls.close(ctypes.addressof(handle))
 
 
 def given_up() -> Ended:
-    """What is raised who waits for a search that another thread has ended."""
+    """The exception for a caller that waits for a search which another thread has ended."""
     return Ended(-signal.SIGKILL, "pespbench: the search was given up")
 
 
 def texts_of(paths: Mapping[str, Optional[Path]]) -> Mapping[str, bytes]:
-    """The bytes of the files, read in the program's order. Raises Ended for one that it does not read."""
+    """The bytes of the files, read in the program's order. Raises Ended for one that cannot be read."""
     return {name: content(name, path) for name in FILES if (path := paths.get(name)) is not None}
 
 
 def content(name: str, path: Path) -> bytes:
-    """The bytes of a file. Raises Ended where it cannot be read, or is too long."""
+    """The bytes of a file. Raises Ended if it cannot be read, or is too long."""
     place = os.fspath(path)
     try:
         with open(place, "rb") as file:

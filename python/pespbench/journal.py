@@ -1,4 +1,4 @@
-"""What was accepted, so that it can be taken back: all of it, or the last changes alone."""
+"""The accepted changes, so that they can be undone: all of them, or only the last ones."""
 
 from __future__ import annotations
 
@@ -10,18 +10,18 @@ from pespbench.faults import NotKept, WrongWords
 
 
 class Change(NamedTuple):
-    """What was accepted as one, and the commands that take it back, in their order."""
+    """The commands that were accepted as one change, and those that undo it, in their order."""
 
     commands: Tuple[str, ...]
     back: Tuple[str, ...]
 
 
-# A time that was set takes little room: the event, its time, and the one that it had before.
+# A set time takes little memory: the event, its time, and the time before.
 Moved = Tuple[int, int, Optional[int]]
 
 
 def change_of(entry: Union[Change, Moved]) -> Change:
-    """A change of the journal in its commands."""
+    """A change of the journal, as commands."""
     if isinstance(entry, Change):
         return entry
     event, time, before = entry
@@ -29,17 +29,17 @@ def change_of(entry: Union[Change, Moved]) -> Change:
 
 
 class Journal:
-    """One change after another, of which the last `most` are kept, or all where that is None.
+    """One change after another, of which the last `most` are kept, or all if that is None.
 
-    A place is the number of changes before it, those that are not kept any more among them.
+    A place is the number of changes before it, including those that are no longer kept.
     """
 
     def __init__(self, most: Optional[int] = None) -> None:
         self.most = most
         self._kept: Deque[Union[Change, Moved]] = deque()
-        # How many changes came before those that are kept.
+        # The number of changes before those that are kept.
         self._gone = 0
-        # How many callers hold what is accepted now, of which nothing goes meanwhile.
+        # How many callers need all changes from now on; meanwhile none is dropped.
         self._holders = 0
 
     def __len__(self) -> int:
@@ -50,7 +50,7 @@ class Journal:
         return [command for entry in self._kept for command in change_of(entry).commands]
 
     def append(self, entry: Union[Change, Moved]) -> None:
-        """Takes a change, and lets the first one go where there are too many."""
+        """Adds a change, and drops the first one if there are too many."""
         self._kept.append(entry)
         if self.most is not None:
             self._trim(self.most)
@@ -62,7 +62,7 @@ class Journal:
 
     @contextmanager
     def held(self) -> Iterator[int]:
-        """Within, all that is accepted is kept; gives the place where that begins."""
+        """In this context, all changes are kept; yields the place of the first."""
         self._holders += 1
         try:
             yield len(self)
@@ -72,7 +72,7 @@ class Journal:
                 self._trim(self.most)
 
     def take_out(self, mark: int) -> Change:
-        """Takes out what stands above a place, as one change. Raises NotKept where not all of it is kept."""
+        """Removes the changes above a place, and returns them as one. Raises NotKept if some of them are no longer kept."""
         if mark < self._gone:
             raise NotKept(self.most or 0)
         taken = [change_of(self._kept.pop()) for _ in range(len(self) - mark)]
@@ -80,18 +80,18 @@ class Journal:
         return Change(commands, tuple(command for change in taken for command in change.back))
 
     def join(self, mark: int) -> None:
-        """Makes one change of those above a place. Raises NotKept where not all of them are kept."""
+        """Joins the changes above a place into one. Raises NotKept if some of them are no longer kept."""
         if len(self) > mark:
             self.append(self.take_out(mark))
 
     def clear(self) -> None:
-        """Begins anew."""
+        """Empties the journal."""
         self._kept.clear()
         self._gone = 0
 
 
 def journal_of(kept: Union[int, str]) -> Journal:
-    """A journal of all changes (`all`), of the last so many, or of none (`none`). Raises WrongWords for anything else."""
+    """A journal of all changes (`all`), of a number of the last ones, or of none (`none`). Raises WrongWords for anything else."""
     if kept == "all" or kept == "none":
         return Journal(None if kept == "all" else 0)
     if isinstance(kept, int) and kept >= 0:

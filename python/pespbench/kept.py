@@ -16,13 +16,13 @@ Self = TypeVar("Self", bound="Kept")
 
 
 class Kept(Commands):
-    """A session with its labels and places: the network as the accepted commands left it, and the journal of these."""
+    """A session with its labels and places: the network as the accepted commands left it, and their journal."""
 
     def __init__(self, session: Session, labels: Optional[Labels] = None) -> None:
-        """Takes a session; `open`, `from_script` and `load` make one."""
+        """Wraps a session; `open`, `from_script` and `load` create one."""
         self._session = session
         self.labels = Labels() if labels is None else labels
-        # Where stations lie: x to the east, y to the north.
+        # The places of stations: x to the east, y to the north.
         self.places: Dict[str, Place] = {}
 
     def close(self) -> None:
@@ -35,7 +35,7 @@ class Kept(Commands):
     def __exit__(self, *_: object) -> None:
         self.close()
 
-    # What the client knows, without asking.
+    # The local state, which needs no command.
 
     @property
     def engine(self) -> Engine:

@@ -8,7 +8,7 @@ comments of the other files; it is UTF-8. Either part may be left out, and so ma
     activity; kind
     11; run
 
-A row `cost; passenger minutes` says what a planner calls the cost.
+A row `cost; passenger minutes` gives the planner's name for the cost.
 """
 
 from __future__ import annotations
@@ -32,7 +32,7 @@ USUALLY_KEPT = ("run", "dwell", "headway")
 
 @dataclass(frozen=True)
 class EventLabel:
-    """What an event is: a train of a `line` on its way `to` a station is at `station`; `kind` is `arrival`, `departure`, .."""
+    """The label of an event: a train of a `line` on its way `to` a station is at `station`; `kind` is `arrival`, `departure`, .."""
 
     line: str = ""
     to: str = ""
@@ -42,7 +42,7 @@ class EventLabel:
 
 @dataclass
 class Labels:
-    """The labels of events and the kinds of activities, by number. `pespbench.Names` makes words of them."""
+    """The labels of events and the kinds of activities, by number. `pespbench.Names` makes texts of them."""
 
     events: Dict[int, EventLabel] = field(default_factory=dict)
     activities: Dict[int, str] = field(default_factory=dict)
@@ -50,7 +50,7 @@ class Labels:
 
     @classmethod
     def read(cls, path: Union[str, "os.PathLike[str]"]) -> "Labels":
-        """The labels of a file. Raises OSError where it cannot be read, FileFault where it is no file of labels."""
+        """The labels of a file. Raises OSError if it cannot be read, FileFault if it is not a file of labels."""
         labels, part = cls(), ""
         for record, fields in records(path, "utf-8"):
             try:
@@ -67,7 +67,7 @@ class Labels:
         return labels
 
     def _take(self, part: str, fields: List[str]) -> None:
-        """Takes one row of a part. Raises ValueError with the text of its fault."""
+        """Adds one row of a part. Raises ValueError with the text of its fault."""
         if not part:
             raise ValueError("there is no header `event; line; to; station; kind` or `activity; kind` above it")
         number = files.number_in(1, fields[0], files.NUMBERS)

@@ -1,4 +1,4 @@
-"""Ctrl-C while a command begins, or when it is done: there is nothing to be saved or told, so it ends at once."""
+"""Ctrl-C while a command starts, or when it is done: nothing needs to be saved or printed, so it ends at once."""
 
 from __future__ import annotations
 
@@ -11,14 +11,14 @@ STATUS = 128 + signal.SIGINT
 
 
 def is_command() -> bool:
-    """Whether this process is `pespbench-py`, or `python3 -m pespbench`, which Python 3.9 cannot say as it begins."""
+    """Whether this process is `pespbench-py`, or `python3 -m pespbench`, which Python 3.9 does not yet say at the start."""
     words = getattr(sys, "orig_argv", [])
     is_module = sys.argv[:1] == ["-m"] and "-m" in words and words[words.index("-m") + 1 :][:1] == ["pespbench"]
     return is_module or os.path.basename(sys.argv[0]) == "pespbench-py"
 
 
 def leave_at_interrupts() -> None:
-    """From now on Ctrl-C ends this process at once, with status 130; where it is ignored, as below `nohup`, it stays so."""
+    """From now on Ctrl-C ends this process at once, with status 130; if it is ignored, as below `nohup`, that remains."""
     if signal.getsignal(signal.SIGINT) is signal.default_int_handler:
         signal.signal(signal.SIGINT, leave)
 

@@ -1,4 +1,4 @@
-"""The library in process: where it is looked for, and its calls, which embedded/pespbench.h explains."""
+"""The library in process: where it is searched for, and its calls, which embedded/pespbench.h explains."""
 
 from __future__ import annotations
 
@@ -19,15 +19,15 @@ HOW = "tools/library and tools/install make it; name it by library=, or by PESPB
 
 
 def find_library(library: AnyPath = None, program: AnyPath = None) -> str:
-    """The library to load: the first of these that is named or there.
+    """The library to load: the first of these that is given or exists.
 
     1. The one given, a file or the folder that has libpespbench.so.
     2. That of the environment's PESPBENCH_LIB, in the same way.
-    3. `lib/libpespbench.so` beside the `bin` of the program that would be run, and beside the `share` of an installed
-       package, as tools/install puts them.
+    3. `lib/libpespbench.so` beside the `bin` of the program that would run, and beside the `share` of an installed
+       package, where tools/install puts them.
     4. The one that the system's loader knows as `pespbench`.
 
-    Raises NoLibrary where there is none, or one that is named by 1 or 2 is not there.
+    Raises NoLibrary if there is none, or if one named by 1 or 2 is missing.
     """
     named = library if library is not None else os.environ.get("PESPBENCH_LIB")
     if named:
@@ -45,7 +45,7 @@ def find_library(library: AnyPath = None, program: AnyPath = None) -> str:
 
 
 def installed(program: AnyPath) -> Iterator[Path]:
-    """Where tools/install has put the library, if it has put the program or this package there."""
+    """Where tools/install has put the library, if it installed the program or this package."""
     with suppress(FileNotFoundError):
         found = Path(find_program(program))
         yield from (path.parent.parent / "lib" / NAME for path in (found, found.resolve()))
@@ -55,7 +55,7 @@ def installed(program: AnyPath) -> Iterator[Path]:
 
 
 class Told(ctypes.Structure):
-    """What a call tells."""
+    """The report of a call, `struct pesp_told` of the header."""
 
     _fields_ = [
         ("length", ctypes.c_uint64),
@@ -67,7 +67,7 @@ class Told(ctypes.Structure):
 
 
 class ToldFound(ctypes.Structure):
-    """What a search tells of what it came to."""
+    """The result of a search, `struct pesp_found` of the header."""
 
     _fields_ = [
         ("cost", ctypes.c_uint64),
@@ -78,19 +78,19 @@ class ToldFound(ctypes.Structure):
 
 
 class Handle(ctypes.Structure):
-    """A session, which the library alone reads and writes."""
+    """A session, which only the library reads and writes."""
 
     _fields_ = [("at", ctypes.c_void_p), ("is_open", ctypes.c_bool)]
 
 
 class Calls(NamedTuple):
-    """The calls on a session. Addresses are numbers: so they are handed over soonest."""
+    """The calls on a session. Addresses are numbers, which are the fastest to pass."""
 
     open: Callable[..., None]
     ask: Callable[..., None]
     cost: Callable[..., None]
     close: Callable[..., None]
-    # A library may have none of these; what they are for is done by lines there.
+    # A library may lack these; then lines do their work.
     search: Optional[Callable[..., None]] = None
     try_move: Optional[Callable[..., None]] = None
     price: Optional[Callable[..., None]] = None
@@ -115,7 +115,7 @@ NEWER = ("pesp_search", "pesp_try_move", "pesp_price", "pesp_price_tension")
 
 @functools.lru_cache(maxsize=None)
 def loaded(path: str) -> Calls:
-    """The calls of the library at a path. Raises NoLibrary for what is none, or an older one."""
+    """The calls of the library at a path. Raises NoLibrary if it is not one, or an older one."""
     try:
         library = ctypes.CDLL(path)
     except OSError as fault:
@@ -141,7 +141,7 @@ REASONS = (
 
 
 def ended_by(told: Told) -> Union[Ended, BadReply]:
-    """What a status other than DONE comes to, as the program tells it; BadReply for one that cannot come."""
+    """The exception for a status other than DONE, with the program's text; BadReply for an impossible one."""
     if told.status == MEMORY:
         return fault("out of memory")
     if told.status == LONG_LINE:

@@ -32,7 +32,7 @@ def add_parser(subparsers: "argparse._SubParsersAction[argparse.ArgumentParser]"
 
 
 def holding(text: str) -> Tuple[int, Optional[int]]:
-    """An event, and its minute where one is given. Raises ArgumentTypeError."""
+    """An event, and its minute if one is given. Raises ArgumentTypeError."""
     event, sign, minute = text.partition("=")
     if not event.isdecimal() or not (minute.isdecimal() if sign else True):
         raise argparse.ArgumentTypeError(f"it is an event, or an event and its minute as 3=7, and not {text!r}")
@@ -47,7 +47,7 @@ def some_minutes(text: str) -> int:
 
 
 class Latest:
-    """What is known last."""
+    """The last result."""
 
     def __init__(self) -> None:
         self.known = Mended()
@@ -57,9 +57,9 @@ class Latest:
 
 
 def run(words: argparse.Namespace) -> int:
-    """Tells the nearest timetable, and saves it; the status is 1 where none was found.
+    """Prints the nearest timetable, and saves it; the status is 1 if none was found.
 
-    Raises what ended the search before its time, once what it had found is told; an interrupt is told by the status.
+    Raises what ended the search early, after printing its result so far; for an interrupt the status reports it.
     """
     with open_network(words) as bench:
         edit(bench, words.commands)
@@ -84,7 +84,7 @@ def run(words: argparse.Namespace) -> int:
 
 
 def edit(bench: Bench, commands: List[str]) -> None:
-    """Makes edits. Raises WrongWords for a line that is none, and Refused or Fault."""
+    """Makes edits. Raises WrongWords for a line that is not an edit, and Refused or Fault."""
     try:
         lines = [change(command) for command in commands]
     except ValueError as fault:
@@ -93,7 +93,7 @@ def edit(bench: Bench, commands: List[str]) -> None:
 
 
 def held_in(bench: Bench, held: "List[Tuple[int, Optional[int]]]") -> "dict[int, int]":
-    """The minutes of held events. Raises WrongWords for one that has no time, and none is given."""
+    """The minutes of held events. Raises WrongWords for an event without a time for which none is given."""
     times = bench.times
     untimed = [event for event, minute in held if minute is None and event not in times]
     if untimed:
@@ -102,7 +102,7 @@ def held_in(bench: Bench, held: "List[Tuple[int, Optional[int]]]") -> "dict[int,
 
 
 def text_of(known: Mended, bench: Bench) -> str:
-    """What moves, in a planner's words."""
+    """The moves, in a planner's words."""
     near, names = known.near, Names(bench.labels, bench.network.activities)
     if not near.times:
         return f"{'No timetable meets everything' if near.is_proved else 'None was found in time'}{limit_text(known)}.\n"
@@ -117,17 +117,17 @@ def text_of(known: Mended, bench: Bench) -> str:
 
 
 def limit_text(known: Mended) -> str:
-    """The greatest move that was given, where there is one."""
+    """The given greatest move, if there is one."""
     return "" if known.most is None else f" with moves of at most {minutes(known.most)}"
 
 
 def move_text(move: int) -> str:
-    """A move, as `3 minutes later`."""
+    """A move, such as `3 minutes later`."""
     return f"{minutes(abs(move))} {'later' if move > 0 else 'earlier'}"
 
 
 def span_text(time: int, move: int, period: int) -> str:
-    """From when to when, as `from :07 to :09`."""
+    """The times before and after, such as `from :07 to :09`."""
     return f"from {clock((time - move) % period, period)} to {clock(time, period)}"
 
 

@@ -1,4 +1,4 @@
-"""Mends a timetable: the nearest one, with the fewest minutes as the greatest move."""
+"""Mends a timetable: the nearest one, with the smallest greatest move."""
 
 from __future__ import annotations
 
@@ -10,15 +10,15 @@ from pespbench.client import Bench
 from pespbench.near import Near, Wish
 from pespbench.searching import check_limits
 
-# The share of the time that is left which a greatest move may use to be decided; the rest is for what follows.
+# The share of the remaining time that one greatest move may use; the rest is for later ones.
 SHARE = 1 / 3
 
 
 @dataclass(frozen=True)
 class Mended:
-    """The nearest timetable that is known, in which no event moves more than `most` minutes.
+    """The nearest known timetable in which no event moves more than `most` minutes.
 
-    `is_least` says that fewer are known not to be enough; `most` is None as long as no number is known to be enough.
+    `is_least` says whether fewer minutes are known to be too few; `most` is None while no number is known to be enough.
     """
 
     near: Near = field(default_factory=Near)
@@ -26,7 +26,7 @@ class Mended:
     is_least: bool = False
 
 
-# What is called with what is known.
+# A callback that receives each Mended.
 Watcher = Callable[[Mended], object]
 
 
@@ -38,10 +38,10 @@ def mended(
     seconds: float = 60.0,
     watch: Optional[Watcher] = None,
 ) -> Mended:
-    """The timetable nearest to the working timetable that meets everything; no event moves more than has to be.
+    """The nearest timetable to the working timetable that meets everything; no event moves more than necessary.
 
-    `held` events are at these times, as in `near`. With `most`, a greatest move is given, and not looked for. `watch` is called
-    whenever more is known. The bench does not change. Raises what `near` raises.
+    `held` events are at these times, as in `near`. `most` gives the greatest move; by default the least sufficient one is
+    searched for. `watch` is called after each improvement. The bench does not change. Raises what `near` raises.
     """
     check_limits(seconds, 1)
     Wish.of(bench.network, bench.times, held or {}, most, {})
@@ -55,15 +55,15 @@ def mended(
 
 
 class Mending:
-    """What is known of the greatest move and of the nearest timetable."""
+    """What is known about the greatest move and the nearest timetable."""
 
     def __init__(self, bench: Bench, held: Mapping[int, int], until: float, watch: Optional[Watcher]) -> None:
         self._bench, self._held, self._until, self._watch = bench, held, until, watch
         self.known = Mended()
 
     def narrow(self) -> None:
-        """Finds the fewest minutes as the greatest move, by halves, as far as the time allows."""
-        # One is too few, and all between this and those that are enough is undecided where there was no time.
+        """Finds the smallest sufficient greatest move, by bisection, as far as the time allows."""
+        # The lower bound is too few; numbers between it and the sufficient one are undecided if the time was over.
         low, is_least, first = self._too_few(), True, self._tried(None)
         if not first.times:
             self._tell(Mended(first))
@@ -88,7 +88,7 @@ class Mending:
                 self._tell(Mended(near, known.most, known.is_least))
 
     def _too_few(self) -> int:
-        """A number of minutes that is not enough, by the domains."""
+        """A number of minutes that is too small, by the domains."""
         period, times = self._bench.period, {**self._bench.times, **self._held}
         with self._bench.trial():
             self._bench._all(f"fix {event} {time}" for event, time in self._held.items())
@@ -100,9 +100,9 @@ class Mending:
         return max(far.values(), default=0) - 1
 
     def _tried(self, most: Optional[int]) -> Near:
-        """The first timetable within so many minutes, or what is known where there was none in time."""
+        """The first timetable within this many minutes, or the result so far if none was found in time."""
         near = Near()
-        # Nothing is said of minutes: the first that is found will do.
+        # The sum of minutes does not matter: the first timetable found is enough.
         for near in self._bench.near(held=self._held, most=most, seconds=SHARE * self._left()):
             if near.times:
                 break

@@ -14,16 +14,16 @@ Kind = TypeVar("Kind")
 
 
 def line(name: str, *numbers: int) -> str:
-    """A command line of whole numbers, those of numpy too. Raises TypeError for any other."""
+    """A command line of whole numbers, also numpy's. Raises TypeError for any other value."""
     return " ".join([name, *(str(index(number)) for number in numbers)])
 
 
 class Commands:
     """A method for each command, over `ask`.
 
-    Events and activities are numbers from 0 to 999,999,999, times and bounds whole units of time. Each raises what `ask`
-    does: Refused if the program refuses the command, Fault if a number is out of range, Ended if the program ends, BadReply if
-    it writes something else than a reply; and TypeError for a value that is no whole number.
+    Events and activities are numbers from 0 to 999,999,999, times and bounds whole units of time. Each raises what `ask` does:
+    Refused if the program refuses the command, Fault if a number is out of range, Ended if the program ends, BadReply if it
+    writes anything other than a reply; and TypeError for a value that is not a whole number.
     """
 
     def ask(self, command: str) -> Answer:
@@ -138,7 +138,7 @@ class Commands:
 
 
 def found_by(answer: Answer) -> Found:
-    """What a search found. Raises BadReply for any other answer."""
+    """The result of a search. Raises BadReply for any other answer."""
     if isinstance(answer, (Optimum, Infeasible, Stopped)):
         return answer
     raise BadReply(str(answer))

@@ -1,4 +1,4 @@
-"""A timetable near to given times: what is asked, what is found, and the network whose optimum it is."""
+"""A timetable near to given times: the question, the result, and the network whose optimum it is."""
 
 from __future__ import annotations
 
@@ -44,7 +44,7 @@ class Near:
 
 @dataclass(frozen=True)
 class Wish:
-    """Given times, those of held events among them, the greatest moves of events, and the weights of their minutes."""
+    """Given times, including those of held events, the greatest moves of events, and the weights of their minutes."""
 
     times: Mapping[int, int]
     held: Mapping[int, int]
@@ -53,7 +53,7 @@ class Wish:
 
     @classmethod
     def of(cls, network: Network, times: Mapping[int, int], held: Mapping[int, int], most: Most, weights: Mapping[int, int]) -> "Wish":
-        """A wish about a network. Raises WrongWords for an event, a time, a move or a weight that cannot be, and TypeError."""
+        """A wish about a network. Raises WrongWords for an impossible event, time, move or weight, and TypeError."""
         greatest = most if isinstance(most, Mapping) else {} if most is None else dict.fromkeys(network.windows, most)
         held, weights, greatest = whole(held), whole(weights), whole(greatest)
         wish = cls({**whole(times), **held}, held, greatest, weights)
@@ -71,7 +71,7 @@ class Wish:
         return wish
 
     def weight(self, event: int) -> int:
-        """What a minute of an event counts."""
+        """The weight of a minute of an event."""
         return self.weights.get(event, 1)
 
     def moves(self, times: Mapping[int, int], period: int) -> Dict[int, int]:
@@ -80,7 +80,7 @@ class Wish:
         return {event: move if 2 * move <= period else move - period for event, move in later.items() if move}
 
     def admits(self, moves: Mapping[int, int]) -> bool:
-        """Whether held events stay, and no other moves too far."""
+        """Whether held events stay, and no other event moves too far."""
         return all(event not in self.held and abs(move) <= self.most.get(event, abs(move)) for event, move in moves.items())
 
     def minutes(self, moves: Mapping[int, int]) -> int:
@@ -89,7 +89,7 @@ class Wish:
 
 
 def whole(given: Mapping[int, int]) -> Dict[int, int]:
-    """The same in plain whole numbers. Raises TypeError for any other value."""
+    """The same in plain integers. Raises TypeError for any other value."""
     return {index(event): index(number) for event, number in given.items()}
 
 
@@ -98,7 +98,7 @@ class WithMoves:
 
     Beside a clock at 0, each event that may move has another one that comes after both it and its given time: the minutes from
     both to that one are at least those of the move, and no more if it comes as soon as it can. A minute of a move costs more than
-    any timetable, or as much as a weight can; without costs, minutes alone count.
+    any timetable, or as much as a weight can; without costs, only minutes count.
     """
 
     def __init__(self, network: Network, wish: Wish, with_costs: bool = True) -> None:
@@ -133,7 +133,7 @@ class WithMoves:
     def _windows(self, network: Network) -> Dict[int, Optional[Window]]:
         windows = {number: network.windows[event] for event, number in self._numbers.items()}
         windows.update({self._numbers[event]: Window(time) for event, time in self._wish.held.items()})
-        # The clock, and those beside.
+        # The clock, and the additional events.
         windows[0] = Window(0)
         windows.update(dict.fromkeys(range(len(windows), len(windows) + len(self._moving()))))
         return windows

@@ -17,7 +17,7 @@ from pespbench.work import Work
 if TYPE_CHECKING:
     from pespbench.questions import Questions
 
-# What is called with each Near.
+# A callback that receives each Near.
 Watcher = Callable[[Near], object]
 
 
@@ -30,14 +30,14 @@ class Nearest:
     """
 
     def __init__(self, bench: "Questions", wish: Wish, seconds: float, nodes: int, watch: Optional[Watcher]) -> None:
-        """A search for what a wish asks, with a number of nodes in its first step. Raises WrongWords for too large a network."""
+        """A search for a wish, with the given nodes in its first step. Raises WrongWords for too large a network."""
         self._bench, self._wish, self._nodes, self._watch = bench, wish, nodes, watch
         self._network = bench.network.copy()
         self._seconds, self._until = seconds, clock.monotonic() + seconds
         self.near = Near()
         with_costs = WithMoves(self._network, wish)
         self._asked = [with_costs] if with_costs.is_exact else [WithMoves(self._network, wish, with_costs=False), with_costs]
-        # The last timetable of a session, and what it is by the bench.
+        # The last timetable of a session, and its value in the bench.
         self._seen: Optional[Mapping[int, int]] = None
         self._checked = Near()
         self._rest = self._steps()
@@ -46,7 +46,7 @@ class Nearest:
         return self
 
     def __next__(self) -> Near:
-        """What the next step comes to. Raises ValueError if the network has changed, Ended and BadReply."""
+        """The result of the next step. Raises ValueError if the network has changed, Ended and BadReply."""
         if self._bench.network != self._network:
             raise ValueError("the network is another one than when the search began")
         return next(self._rest)
@@ -59,7 +59,7 @@ class Nearest:
 
     def _steps(self) -> Iterator[Near]:
         wish = self._wish
-        # An event whose minutes count nothing may still have a cheaper time.
+        # An event whose minutes have weight 0 may still have a cheaper time.
         if wish.times.keys() == self._network.windows.keys() and all(map(wish.weight, wish.times)):
             violations, near = self._asked_bench(wish.times)
             if not len(violations):
@@ -83,7 +83,7 @@ class Nearest:
             self._watch(near)
 
     def _known(self, asked: WithMoves, progress: Progress) -> Near:
-        """What is known after a step of a search; what was known before stays known."""
+        """What is known after a step of a search; earlier knowledge is kept."""
         bounds = [each for each in (self.near.lower_bound, asked.bound(progress.lower_bound)) if each is not None]
         near = replace(self.near, lower_bound=max(bounds, default=None))
         if progress.found.is_proved and progress.times is None:
@@ -97,14 +97,14 @@ class Nearest:
         return replace(checked if is_better(checked, near) else near, is_proved=is_nearest)
 
     def _check(self, times: Mapping[int, int]) -> Near:
-        """A timetable that was found. Raises BadReply if it violates something in the bench, or is none that was asked for."""
+        """A timetable that was found. Raises BadReply if it violates something in the bench, or does not answer the question."""
         violations, near = self._asked_bench(times)
         if len(violations) or not self._wish.admits(near.moves):
             raise BadReply(f"a timetable with {violations.text()}")
         return near
 
     def _asked_bench(self, times: Mapping[int, int]) -> Tuple[Violations, Near]:
-        """What a timetable violates and costs, as the bench says it."""
+        """The violations and the cost of a timetable in the bench."""
         bench, moves = self._bench, self._wish.moves(times, self._network.period)
         with bench._session.waiting(self._seconds), bench.trial():
             bench._all(Work.change_to(bench.times, times))
@@ -112,7 +112,7 @@ class Nearest:
 
 
 def is_better(near: Near, other: Near) -> bool:
-    """Whether it takes fewer minutes than another, or as many at no more cost."""
+    """Whether it takes fewer minutes than another, or as many at no higher cost."""
     if near.minutes is None or near.cost is None or other.minutes is None or other.cost is None:
         return other.minutes is None
     return (near.minutes, near.cost) <= (other.minutes, other.cost)

@@ -1,4 +1,4 @@
-"""The words of a command line that more than one subcommand has: which network is opened, and numbers."""
+"""The arguments that several subcommands share: the network to open, and numbers."""
 
 from __future__ import annotations
 
@@ -10,7 +10,7 @@ from pespbench.searching import MOST_SECONDS, SECONDS_TEXT
 
 
 def add_network(parser: argparse.ArgumentParser) -> None:
-    """Adds NETWORK and its options to a subcommand's parser; each option is taken in place of what a folder has."""
+    """Adds NETWORK and its options to a subcommand's parser; each option replaces a file of a folder."""
     parser.add_argument("network", metavar="NETWORK", help="a file of activities, or a saved folder")
     parser.add_argument("--period", type=int, help="the period, 2 to 1440 [default: 60; of a folder, its own]")
     parser.add_argument("--fixed", metavar="FILE", help="fixed times of events")
@@ -21,7 +21,7 @@ def add_network(parser: argparse.ArgumentParser) -> None:
 
 def open_network(words: argparse.Namespace) -> Bench:
     """Opens the network that a command line names. Raises what Bench.open and Bench.load raise."""
-    # A program that gives no answer is given up after the time that was asked for, where one was.
+    # A program that does not answer is abandoned after the requested time, if there is one.
     asked = getattr(words, "seconds", getattr(words, "search", None))
     how = {"fixed": words.fixed, "times": words.times, "labels": words.labels, "program": words.program, "patience": asked}
     if os.path.isdir(words.network):

@@ -19,14 +19,14 @@ from pespbench.workers import Bar, Driver, Lost
 
 @dataclass(frozen=True)
 class Part:
-    """A choice of one range of each span that is cut; `constant` is what any of its timetables costs at least."""
+    """A choice of one range of each split span; `constant` is a lower bound of the cost of its timetables."""
 
     constant: int
     edits: Tuple[str, ...]
 
 
 def cut_activities(network: Network, spans: int) -> List[Activity]:
-    """The activities whose spans are cut: of those with 2 to a period of values, the ones in which most cost is at stake."""
+    """The activities whose spans are split: of those with 2 to a period of values, the ones with the greatest cost at stake."""
     period = network.period
 
     def stake(each: Activity) -> Tuple[int, int]:
@@ -37,7 +37,7 @@ def cut_activities(network: Network, spans: int) -> List[Activity]:
 
 
 def ranges_of(activity: Activity, ranges: int) -> List[Tuple[int, int]]:
-    """Ranges that part a span, ascending, their lengths as equal as can be."""
+    """Ranges that partition a span, ascending, of lengths as equal as possible."""
     length = activity.upper - activity.lower + 1
     count = min(ranges, length)
     starts = [activity.lower + length * place // count for place in range(count + 1)]
@@ -45,7 +45,7 @@ def ranges_of(activity: Activity, ranges: int) -> List[Tuple[int, int]]:
 
 
 def parts_of(network: Network, spans: int, ranges: int) -> List[Part]:
-    """The choices, ascending by constant. Each timetable that meets everything has just one."""
+    """The choices, ascending by constant. Each timetable that meets everything is in exactly one."""
     activities = cut_activities(network, spans)
     parts = []
     for chosen in itertools.product(*(ranges_of(each, ranges) for each in activities)):
@@ -89,7 +89,7 @@ def optimum_in_parts(
 
 
 class Search:
-    """The parts, and the first of the cheapest timetables that came."""
+    """The parts, and the first of the cheapest timetables so far."""
 
     def __init__(self, parts: List[Part], base: Base, bar: Bar, watch: Watch) -> None:
         self._parts = parts
@@ -101,20 +101,20 @@ class Search:
         self.best: Optional[Optimum] = None
 
     def begin(self, standing: Stopped) -> None:
-        """Takes a timetable that is known."""
+        """Adds a known timetable."""
         if standing.cost is not None:
             self._found(Optimum(standing.cost, standing.times))
         self._tell_bound()
 
     def tasks(self) -> Iterator[Task]:
-        """The parts as tasks, as long as one may have a timetable that is as cheap as the best."""
+        """The parts as tasks, while one may have a timetable as cheap as the best."""
         for part in self._parts:
             if self.best is not None and part.constant > self.best.cost:
                 return
             yield Task(self._base, part.edits, "optimum")
 
     def take(self, place: int, answer: object) -> None:
-        """Takes the answer of a part. Raises Lost and BadReply."""
+        """Records the answer of a part. Raises Lost and BadReply."""
         self._bar.step()
         self._left.discard(place)
         self._watch.take_parts(len(self._parts) - len(self._left), len(self._parts))
@@ -139,5 +139,5 @@ class Search:
 
 
 def order_of(found: Optimum) -> Tuple[int, List[int]]:
-    """By cost, and then by the time of the least event, of the next, ..; the order of optima."""
+    """By cost, and then by the time of the first event, of the next, ..; the order of optima."""
     return found.cost, [found.times[event] for event in sorted(found.times)]

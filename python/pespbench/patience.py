@@ -1,4 +1,4 @@
-"""How long an answer is waited for that is no search: a program that gives none is given up."""
+"""How long to wait for an answer that is not a search's: a program that does not answer is abandoned."""
 
 from __future__ import annotations
 
@@ -12,23 +12,23 @@ from typing import Iterable, Iterator, Optional, Union
 from pespbench.faults import GivenUp
 from pespbench.transport import OutOfTime
 
-# Seconds: that many any answer may take where little else runs, and so much more each line, and each byte of a file.
+# Seconds: the wait for any answer on an idle machine, and the additional wait for each line, and each byte of a file.
 LEAST, OF_A_LINE, OF_A_BYTE = 5.0, 0.002, 1e-5
-# The most that files make of it.
+# The longest additional wait for files.
 MOST_OF_FILES = 60.0
 
 
 @dataclass(frozen=True)
 class Patience:
-    """So many seconds, but never fewer than any answer may take; where it is None, an answer is waited for without end."""
+    """This many seconds, but at least the wait for any answer; if it is None, the wait has no limit."""
 
     seconds: Optional[float] = None
 
     @contextmanager
     def of_lines(self, count: int, deadline: Optional[float] = None) -> Iterator[Optional[float]]:
-        """The time until which so many answers are waited for: a deadline where there is one, at which OutOfTime is raised.
+        """The time until which to wait for this many answers: the deadline if there is one, at which OutOfTime is raised.
 
-        Raises Ended where they did not come in time.
+        Raises Ended if they did not arrive in time.
         """
         if deadline is not None or self.seconds is None:
             yield deadline
@@ -49,17 +49,17 @@ class Patience:
 
 
 def business() -> float:
-    """How many times longer an answer may take on a machine on which so much else runs."""
+    """How many times longer an answer may take on a machine under this load."""
     return 1 + 2 * os.getloadavg()[0] / (os.cpu_count() or 1)
 
 
 def length_of(path: Union[str, "os.PathLike[str]", None]) -> int:
-    """The bytes of a file, or 0 where it cannot be said."""
+    """The bytes of a file, or 0 if unknown."""
     try:
         return 0 if path is None else os.path.getsize(path)
     except (OSError, ValueError):
         return 0
 
 
-# Who waits without end.
+# A wait without limit.
 PATIENT = Patience()

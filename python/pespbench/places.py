@@ -1,7 +1,7 @@
 """Places of stations, for people: the program never reads them.
 
 A file of places has a row for each station, with x to the east and y to the north in any unit; semicolons, quotes and
-comments are those of the other files, and it is UTF-8. A name that begins with `#` stands in quotes, and is then no comment.
+comments are those of the other files, and it is UTF-8. A name that begins with `#` is in quotes, and is then not a comment.
 
     station; x; y
     Ashford; 12; 40.5
@@ -19,11 +19,11 @@ from pespbench.curing import file_fault
 from pespbench.records import records
 
 Place = Tuple[float, float]
-# A drawing is sure of places up to so far from 0 that are not all nearer to each other; others are drawn over such a width.
+# Drawings are exact for places up to this distance from 0, unless all are nearer to each other; others are scaled to such a width.
 FARTHEST, NARROWEST, WIDTH = 1e9, 1e-6, 1_000
 HEADER = ["station", "x", "y"]
 SPECIAL = re.compile('[;"\n\r]|^[ \t#]|[ \t]$')
-# Digits match in one way alone: what has two is tried again for each digit of a long field.
+# Digits match in only one way: a pattern with two ways tries each of them again for each digit of a long field.
 NUMBER = re.compile("[+-]?([0-9]+([.][0-9]*)?|[.][0-9]+)([eE][+-]?[0-9]+)?")
 
 
@@ -47,7 +47,7 @@ def read_places(path: Union[str, "os.PathLike[str]"]) -> Dict[str, Place]:
 
 
 def measure(text: str) -> float:
-    """A number that is neither endless nor no number. Raises ValueError for any other text."""
+    """A finite number. Raises ValueError for any other text."""
     value = float(text) if NUMBER.fullmatch(text) else math.nan
     if not math.isfinite(value):
         raise ValueError(text)
@@ -55,9 +55,9 @@ def measure(text: str) -> float:
 
 
 def on_a_map(places: Mapping[str, Place]) -> Dict[str, Place]:
-    """The same places, in a unit in which they can be drawn where theirs is too large or too small for that.
+    """The same places, in a unit in which they can be drawn if theirs is too large or too small for that.
 
-    Those without a place on any map are left out.
+    Those without finite coordinates are left out.
     """
     known = {station: place for station, place in places.items() if all(map(math.isfinite, place))}
     widest = max((max(each) - min(each) for each in zip(*((Fraction(x), Fraction(y)) for x, y in known.values()))), default=Fraction(0))
@@ -76,10 +76,10 @@ def places_text(places: Mapping[str, Place]) -> str:
 
 
 def quoted(name: str) -> str:
-    """A name as a field, in quotes where it would not be read as it is."""
+    """A name as a field, in quotes if it would otherwise be read differently."""
     return '"{}"'.format(name.replace('"', '""')) if SPECIAL.search(name) else name
 
 
 def plain(value: float) -> str:
-    """A number without a point where it is whole."""
+    """A number without a point if it is whole."""
     return str(int(value)) if value == int(value) and abs(value) < 1e15 else repr(value)

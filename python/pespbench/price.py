@@ -1,4 +1,4 @@
-"""What a minute costs, and the two questions for it: an event at each residue, and an activity at each of its tensions."""
+"""What a minute costs: an event at each residue, or an activity at each of its tensions."""
 
 from __future__ import annotations
 
@@ -43,7 +43,7 @@ class Price:
         return float("inf") if known is None else known
 
     def joined(self, before: Optional["Price"]) -> "Price":
-        """This with what was known before: the cheaper timetable and the better bound."""
+        """This joined with an earlier price: the cheaper timetable and the better bound."""
         if before is None or self.is_proved:
             return self
         best = before if self.cost is None or before.cost is not None and before.cost <= self.cost else self
@@ -52,7 +52,7 @@ class Price:
 
 
 def price_of(value: int, reached: Reached, constant: int, cap: Optional[int] = None) -> Price:
-    """The price of what a search reached whose costs lack a constant; with a cap, it looked for nothing that costs more."""
+    """The price for the result of a search whose costs lack a constant; with a cap, it searched for nothing that costs more."""
     found, bound = reached.found, reached.lower_bound
     cost = None if found.cost is None else found.cost + constant
     bound = cost if found.is_proved else None if bound is None else bound + constant
@@ -66,7 +66,7 @@ def price_of(value: int, reached: Reached, constant: int, cap: Optional[int] = N
 
 
 def cuts(network: Network, cap: int) -> List[str]:
-    """The commands that take from the spans the minutes that alone cost more than a cap."""
+    """The commands that remove from the spans the minutes that alone cost more than a cap."""
     shorter = [(each, cap // each.weight) for each in network.activities.values() if each.weight]
     return [
         f"span {each.number} {each.lower} {each.lower + slack}" for each, slack in shorter
@@ -89,11 +89,11 @@ class OfEvent:
         return f"fix {self.event} {value}"
 
     def price(self, transport: Transport, residue: int, nodes: int, until: float) -> Optional[Reached]:
-        """What a search with a residue reaches, if the engine has a call for it."""
+        """The result of a search with a residue, if the engine has a call for it."""
         return transport.priced(self.event, residue, nodes, until)
 
     def constant(self, value: int) -> int:
-        """What the line or the call takes off the cost."""
+        """The cost that the line or the call leaves out."""
         return 0
 
     def possible(self, bench: "Questions") -> Set[int]:
@@ -125,11 +125,11 @@ class OfActivity:
         return f"span {self.activity.number} {value} {value}"
 
     def price(self, transport: Transport, residue: int, nodes: int, until: float) -> Optional[Reached]:
-        """What a search with a tension reaches, up to whole periods, if the engine has a call for it."""
+        """The result of a search with a tension, up to whole periods, if the engine has a call for it."""
         return transport.priced_tension(self.activity.number, residue, nodes, until)
 
     def constant(self, value: int) -> int:
-        """What the line or the call takes off the cost, since minutes up to the new lower bound cost nothing."""
+        """The cost that the line or the call leaves out, since minutes up to the new lower bound cost nothing."""
         return self.activity.weight * (value - self.activity.lower)
 
     def possible(self, bench: "Questions") -> Set[int]:

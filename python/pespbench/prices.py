@@ -1,4 +1,4 @@
-"""A profile: what each residue of an event costs, or each tension of an activity."""
+"""A profile: the price of each residue of an event, or of each tension of an activity."""
 
 from __future__ import annotations
 
@@ -13,16 +13,16 @@ from pespbench.transport import OutOfTime, Reached
 if TYPE_CHECKING:
     from pespbench.questions import Questions
 
-# What is undecided after its turn gets so many times the nodes in the next round, so at most a third of all is repeated.
+# An undecided value gets this many times the nodes in the next round, so at most a third of all work is repeated.
 GROWTH = 4
-# A search by a call has so many nodes at first, often enough for the least cost, and then twice as many each time.
+# The nodes of the first search by a call, often enough for the least cost; each further one has twice as many.
 FEW_NODES = 10
-# What is called with each Price.
+# A callback that receives each Price.
 Watcher = Callable[[Price], object]
 
 
 def steps_to(nodes: int) -> List[int]:
-    """The nodes of the searches of a turn, the last of so many."""
+    """The nodes of each search of a turn, doubled up to this number."""
     steps = [FEW_NODES]
     while 2 * steps[-1] < nodes:
         steps.append(2 * steps[-1])
@@ -30,27 +30,27 @@ def steps_to(nodes: int) -> List[int]:
 
 
 class Prices:
-    """Runs while it is iterated over, and yields a Price each time more is known of a value; `known` has the last of each.
+    """Runs while it is iterated over, and yields a Price whenever more is known about a value; `known` has the last of each.
 
-    First come the values that the domains rule out, which take no search. Each other value has a turn, nearest to the present one
-    first; what is undecided then has a longer one in the next round, cheapest first. A turn leaves network, working timetable and
+    First come the values that the domains exclude, which need no search. Each other value has a turn, nearest to the present one
+    first; an undecided one has a longer turn in the next round, cheapest first. A turn leaves network, working timetable and
     journal unchanged, whatever ends it: so iteration can stop and resume, and `extend` gives it more time. A turn is a trial, an
-    edit with a search; a library that has the calls for prices needs no edit.
+    edit with a search; a library with `pesp_price` needs no edit.
     """
 
     def __init__(
         self, bench: "Questions", question: Question, seconds: float, nodes: int, within: Optional[int], watch: Optional[Watcher]
     ) -> None:
-        """Prices with so many nodes in each turn of the first round, and of interest up to a cost, or all."""
+        """Prices with this many nodes in each turn of the first round, of interest up to a cost if one is given."""
         self._bench, self._question, self._within, self._watch = bench, question, within, watch
-        # The nodes of a turn's searches by a call; a turn by lines has one search, with the last of these.
+        # The nodes of the searches of a turn by calls; a turn by lines has one search, with the last of these.
         self._steps = steps_to(nodes)
         self._network = bench.network.copy()
         self._seconds, self._until = seconds, clock.monotonic() + seconds
         # A turn is started if more time is left than the longest of the last round took.
         self._longest, self._wanted = 0.0, 0.0
         self.known: Dict[int, Price] = {}
-        # What is known without a search and not reported yet, the values with a turn in this round, and the edits of a cap.
+        # The prices that need no search and are not yet reported, the values with a turn in this round, and the edits for the cap.
         self._ready: Optional[List[Price]] = None
         self._turns: List[int] = []
         self._cuts: List[str] = []
@@ -59,7 +59,7 @@ class Prices:
         return self
 
     def __next__(self) -> Price:
-        """What is known next. Raises ValueError if the network has changed, Ended and BadReply."""
+        """The next price. Raises ValueError if the network has changed, Ended and BadReply."""
         if self._bench.network != self._network:
             raise ValueError("the network is another one than when its prices were asked")
         with self._bench._session.waiting(self._seconds):
@@ -74,28 +74,28 @@ class Prices:
         raise StopIteration
 
     def found(self) -> Dict[int, Price]:
-        """All that is known at the end, ascending by value. Raises what a turn raises."""
+        """All prices at the end, ascending by value. Raises what a turn raises."""
         for _ in self:
             pass
         return {value: self.known[value] for value in sorted(self.known)}
 
     def extend(self, seconds: float) -> None:
-        """Gives so many more seconds from now on. Raises ValueError for seconds outside 0 to 1,000,000."""
+        """Allows this many more seconds from now on. Raises ValueError for seconds outside 0 to 1,000,000."""
         check_limits(seconds, 1)
         self._seconds, self._until, self._wanted = seconds, clock.monotonic() + seconds, 0.0
 
     @property
     def is_ended(self) -> bool:
-        """Whether all is known that was asked for."""
+        """Whether all requested prices are known."""
         return self._ready == [] and not any(self._is_open(value) for value in self._question.values(self._network))
 
     @property
     def cheapest(self) -> List[Price]:
-        """Where timetables are known, cheapest first."""
+        """The prices with a known timetable, cheapest first."""
         return sorted((each for each in self.known.values() if each.cost is not None), key=lambda each: (each.rank(), each.value))
 
     def timetable(self, value: int) -> Mapping[int, int]:
-        """The timetable whose cost is known with a value; it is searched for where the engine returned the cost alone.
+        """The timetable of a value's known cost; it is searched for if the engine returned only the cost.
 
         Raises ValueError if none is known, or the network has changed, and what a search raises.
         """
@@ -117,7 +117,7 @@ class Prices:
         return price is None or not (price.is_proved or price.is_above(self._within))
 
     def _prepared(self) -> List[Price]:
-        """What is known without a search: what the domains rule out, also with the cap, and the working timetable."""
+        """The prices that need no search: values that the domains exclude, also with the cap, and the working timetable."""
         bench, question, network = self._bench, self._question, self._network
         possible, standing, times = question.possible(bench), bench.standing(), bench.times
         cheap = self._cheap(possible)
@@ -133,7 +133,7 @@ class Prices:
         return ready
 
     def _cheap(self, possible: Set[int]) -> Set[int]:
-        """Those of the possible values that the domains leave with the cap."""
+        """Those of the possible values that the domains admit with the cap."""
         if self._within is None:
             return possible
         self._cuts = cuts(self._network, self._within)
@@ -143,7 +143,7 @@ class Prices:
         return {value for value in left if self._question.constant(value) <= self._within}
 
     def _next_turn(self) -> Optional[Price]:
-        """The price after the next turn, or None if its time was over, or it came to nothing to be asked."""
+        """The price after the next turn, or None if its time was over or nothing remained to be searched."""
         if not self._turns:
             self._begin_round()
         value = self._turns[0]
@@ -158,7 +158,7 @@ class Prices:
         return None if price is None else price.joined(self.known.get(value))
 
     def _begin_round(self) -> None:
-        """Gives another turn to all that is undecided, cheapest first."""
+        """Gives another turn to all undecided values, cheapest first."""
         left = [value for value in self._question.values(self._network) if self._is_open(value)]
         known = self.known
         self._turns = sorted(left, key=lambda value: known[value].rank() if value in known else float("inf"))
@@ -166,7 +166,7 @@ class Prices:
         self._wanted, self._longest = self._longest, 0.0
 
     def _asked(self, value: int) -> Price:
-        """What a turn comes to."""
+        """The result of a turn."""
         constant = self._question.constant(value)
         for nodes in self._steps:
             reached = self._by_call(value % self._network.period, nodes)
@@ -178,12 +178,12 @@ class Prices:
         return price
 
     def _by_call(self, residue: int, nodes: int) -> Optional[Reached]:
-        """What a search with a residue comes to, if the engine has a call for it. Raises OutOfTime."""
+        """The result of a search with a residue, if the engine has a call for it. Raises OutOfTime."""
         question, until = self._question, self._until
         return self._bench._session.by_call(lambda transport: question.price(transport, residue, nodes, until))
 
     def _by_lines(self, value: int, edits: List[str], nodes: int, until: float) -> Reached:
-        """What a search comes to with edits and a value. Raises OutOfTime."""
+        """The result of a search with edits and a value. Raises OutOfTime."""
         with self._bench.trial():
             self._bench._all([*edits, self._question.line(value)])
             return self._bench._session.searched(nodes, until)

@@ -1,4 +1,4 @@
-"""A running program and its pipes: lines go in while replies come out, so neither side waits for the other for ever."""
+"""A running program and its pipes: lines go in while replies come out, so that neither side blocks the other."""
 
 from __future__ import annotations
 
@@ -19,16 +19,16 @@ from pespbench.starting import started
 from pespbench.transport import OutOfTime, Transport
 
 PIECE = 65_536
-# How long a program may take to end that was told to, or has closed its output.
+# Seconds: how long a program may take to end after it was told to, or closed its output.
 PATIENCE = 2.0
-# So many bytes of what it writes to standard error are kept; the rest is read and dropped, so that it never fills a pipe.
+# This many bytes of its standard error are kept; the rest is read and dropped, so that it never fills a pipe.
 MOST_SAID = 8_192
 
 
 def find_program(program: Union[str, "os.PathLike[str]", None]) -> str:
-    """The program to run: the one given, else that of the environment's PESPBENCH, else `pespbench` on the path.
+    """The program to run: the given one, else that of the environment's PESPBENCH, else `pespbench` on the path.
 
-    Raises FileNotFoundError where there is none.
+    Raises FileNotFoundError if there is none.
     """
     wanted = os.fspath(program) if program is not None else os.environ.get("PESPBENCH") or "pespbench"
     found = shutil.which(wanted)
@@ -38,10 +38,10 @@ def find_program(program: Union[str, "os.PathLike[str]", None]) -> str:
 
 
 class Process(Transport):
-    """A running program. It has a session of its own, so that Ctrl-C at a terminal reaches the client alone."""
+    """A running program. It has a session of its own, so that Ctrl-C at a terminal reaches only the client."""
 
     def __init__(self, words: Sequence[str]) -> None:
-        """Starts it. Raises OSError where it cannot be started."""
+        """Starts it. Raises OSError if it cannot be started."""
         self._child = started(words)
         assert self._child.stdin is not None and self._child.stdout is not None and self._child.stderr is not None
         self._input, self._output, self._errors = self._child.stdin, self._child.stdout, self._child.stderr
@@ -53,15 +53,15 @@ class Process(Transport):
         self._said = b""
         self._assembler = Assembler()
         self._lines = 0
-        # One that nobody closed goes with its object, or with the interpreter.
+        # A program that nobody closed ends with its object, or with the interpreter.
         self._let_go = weakref.finalize(self, let_go, self._child, self._selector, os.getpid())
         _running.add(self)
 
     def replies(self, commands: Sequence[str], deadline: Optional[float] = None) -> Iterator[List[str]]:
-        """Sends commands, and gives the reply to each as it comes.
+        """Sends commands, and yields the reply to each as it arrives.
 
-        Where the caller stops before the last, replies are left in the pipe. Raises Ended where the program ends, OutOfTime
-        at the deadline, and BadReply, also for what comes unasked.
+        If the caller stops before the last, replies remain in the pipe. Raises Ended if the program ends, OutOfTime at the
+        deadline, and BadReply, also for unexpected output.
         """
         self._want_silence()
         self._lines += len(commands)
@@ -78,14 +78,14 @@ class Process(Transport):
             yield from came
 
     def _want_silence(self) -> None:
-        """Raises BadReply where there is something to read that nobody has asked for."""
+        """Raises BadReply if there is unexpected output."""
         is_ready = any(key.fileobj is self._output for key, _ in self._selector.select(0))
         data = os.read(self._output.fileno(), PIECE) if is_ready else b""
         if data:
             raise BadReply(f"more than was asked for: {data.decode(errors='replace').strip()}")
 
     def _move(self, rest: memoryview, deadline: Optional[float]) -> Tuple[bytes, memoryview]:
-        """Waits until there is something to read or room to write; what was read, and what is left to be written."""
+        """Waits until there is something to read or room to write; returns what was read, and what remains to be written."""
         if rest:
             self._selector.register(self._input, selectors.EVENT_WRITE)
         try:
@@ -115,7 +115,7 @@ class Process(Transport):
         return bool(piece)
 
     def _write(self, rest: memoryview) -> memoryview:
-        """Writes what there is room for, and gives the rest."""
+        """Writes as much as there is room for, and returns the rest."""
         place = 0
         try:
             while place < len(rest):
@@ -123,7 +123,7 @@ class Process(Transport):
         except BlockingIOError:
             return rest[place:]
         except BrokenPipeError:
-            # That it has ended is told where its replies come to their end.
+            # The end of the program is reported when its replies end.
             return rest[:0]
         return rest[:0]
 
@@ -133,16 +133,16 @@ class Process(Transport):
         except subprocess.TimeoutExpired:
             kill(self._child)
             status = self._child.wait()
-        # All that it said is in the pipe, which holds less than a piece, but where another process has it open too.
+        # The whole standard error is in the pipe, which holds less than a piece, unless another process has it open too.
         self._listen()
         return Ended(status, self._said.decode(errors="replace").strip())
 
     def is_full(self, lines: int) -> bool:
-        """Whether the program would end before so many lines more."""
+        """Whether the program would reach its limit of lines with this many more."""
         return self._lines + lines > MOST_LINES
 
     def close(self) -> None:
-        """Ends the program by the end of its input, and by force where that takes long."""
+        """Ends the program by the end of its input, and by force if that takes too long."""
         self._input.close()
         try:
             self._child.wait(PATIENCE)
@@ -155,22 +155,22 @@ class Process(Transport):
         self._let_go()
 
     def end(self) -> None:
-        """Ends the program by force, and leaves all that leads to it as it is."""
+        """Ends the program by force, but does not close its pipes."""
         kill(self._child)
 
 
-# What runs for this process; a worker that is ended ends these first.
+# The programs of this process; a worker that is ended ends these first.
 _running: "weakref.WeakSet[Process]" = weakref.WeakSet()
 
 
 def kill_all() -> None:
-    """Ends all programs of this process by force, from whatever thread; each is of no more use."""
+    """Ends all programs of this process by force; any thread may call it. They cannot be used afterwards."""
     for process in list(_running):
         process.end()
 
 
 def kill(child: "subprocess.Popen[bytes]") -> None:
-    """Ends a program by force, with all that it has started and left in its session."""
+    """Ends a program by force, with all processes that it started in its session."""
     if child.poll() is None:
         with suppress(ProcessLookupError, PermissionError):
             os.killpg(child.pid, signal.SIGKILL)
@@ -178,12 +178,12 @@ def kill(child: "subprocess.Popen[bytes]") -> None:
 
 
 def let_go(child: "subprocess.Popen[bytes]", selector: selectors.BaseSelector, owner: int) -> None:
-    """Ends a program by force, and closes all that leads to it; a process that was forked leaves its parent's program alone."""
+    """Ends a program by force, and closes its pipes; a forked process leaves its parent's program alone."""
     if os.getpid() == owner:
         kill(child)
         child.wait()
     else:
-        # So nobody waits for it here, nor warns that it runs.
+        # So the interpreter neither waits for it, nor warns that it still runs.
         child.returncode = 0
     selector.close()
     for file in (child.stdin, child.stdout, child.stderr):

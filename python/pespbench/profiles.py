@@ -15,7 +15,7 @@ from pespbench.workers import Bar, Driver, Lost
 
 # The prices of an event by residue, ascending.
 Profile = Dict[int, Price]
-# What is called with each event and its prices.
+# A callback that receives each event and its prices.
 Watcher = Callable[[int, Profile], object]
 
 
@@ -31,7 +31,7 @@ class Task:
 
 
 def answer_prices(task: Task) -> Profile:
-    """The prices without their timetables. Raises Ended, also where all is over, and BadReply."""
+    """The prices without their timetables. Raises Ended, also if all work has ended, and BadReply."""
     with in_hand(task.base, 1) as bench:
         prices = bench.prices(event=task.event, seconds=task.seconds, nodes=task.nodes, within=task.within)
         return {value: replace(price, times={}) for value, price in prices.found().items()}

@@ -1,4 +1,4 @@
-"""What is asked of a bench beside the commands: searches for the best timetable and the nearest one, and what minutes cost."""
+"""Questions to a bench that are not commands: searches for the best timetable and the nearest one, and what minutes cost."""
 
 from __future__ import annotations
 
@@ -21,7 +21,7 @@ from pespbench.tabled import Tabled
 
 
 class Taken(Protocol):
-    """What a search found: a timetable with its cost, or none."""
+    """The result of a search: a timetable with its cost, or none."""
 
     @property
     def cost(self) -> Optional[int]:
@@ -34,7 +34,7 @@ class Taken(Protocol):
 
 @dataclass(frozen=True)
 class Tried:
-    """What a move would do: by how much the cost changes, and all that is violated then."""
+    """The effect of a move: by how much the cost changes, and all violations then."""
 
     change: int
     violations: Violations
@@ -158,7 +158,7 @@ class Questions(Tabled):
         return OfActivity(known)
 
     def _all(self, commands: Iterable[str]) -> None:
-        """Does commands, of which none may be refused. Raises the first refusal or fault."""
+        """Makes commands, none of which may be refused. Raises the first refusal or fault."""
         for outcome in self.many(commands):
             if isinstance(outcome, (Refused, Fault)):
                 raise outcome

@@ -14,17 +14,17 @@ from pespbench.faults import FileFault
 Path = Union[str, "os.PathLike[str]"]
 MARK = b"\xef\xbb\xbf"
 LONGEST_FILE = 67_108_864
-# What is said of a row that the reader of tables does not take.
+# The text of a fault for a row that `csv` does not accept.
 UNCUT = "it cannot be cut into fields: a field is too long, or a quote is missing"
-# So many records are cut before the first of them is given.
+# The number of records that are split before the first one is returned.
 AT_ONCE = 1_000
 
 
 def records(path: Path, encoding: str = "latin-1", has_names: bool = False) -> Iterator[Tuple[int, List[str]]]:
-    """The records of a file that are neither blank nor comments, with their numbers and trimmed fields; headers too.
+    """The records of a file that are neither blank nor comments, with their numbers and trimmed fields, including headers.
 
-    In a file that `has_names` in its first column, one in quotes is no comment. Raises OSError, and FileFault for a file that
-    is too long.
+    In a file that `has_names` in its first column, a quoted field is not a comment. Raises OSError, and FileFault for a file
+    that is too long.
     """
     for number, (record, is_quoted) in enumerate(cut(content(path), encoding, has_names), 1):
         fields = [field.strip(" \t") for field in record]
@@ -35,7 +35,7 @@ def records(path: Path, encoding: str = "latin-1", has_names: bool = False) -> I
 
 
 def content(path: Path) -> bytes:
-    """The bytes of a file, without the mark of UTF-8. Raises OSError, and FileFault for a file that is too long."""
+    """The bytes of a file, without a byte order mark. Raises OSError, and FileFault for a file that is too long."""
     with open(path, "rb") as file:
         data = file.read(LONGEST_FILE + 1)
     if len(data) > LONGEST_FILE:
@@ -44,8 +44,8 @@ def content(path: Path) -> bytes:
 
 
 def cut(data: bytes, encoding: str, has_names: bool) -> Iterator[Tuple[List[str], bool]]:
-    """The fields of each record that is no empty line, and whether it begins with a quote, where files that `has_names` ask."""
-    # Before Python 3.11 `csv` takes no null characters; another one that stands in no number serves as well.
+    """The fields of each nonempty record, and whether it begins with a quote, for files that `has_names`."""
+    # Before Python 3.11 `csv` accepts no null characters; another character that is in no number serves as well.
     lines = io.TextIOWrapper(io.BytesIO(data.replace(b"\0", b"\1")), encoding, errors="replace", newline="")
     delimiter = ";" if b";" in data else ","
     rows = quoted(lines, delimiter) if has_names else zip(csv.reader(lines, delimiter=delimiter), repeat(False))
@@ -73,7 +73,7 @@ def quoted(lines: Iterable[str], delimiter: str) -> Iterator[Tuple[List[str], bo
 
 @contextmanager
 def long_fields() -> Iterator[None]:
-    """Within, a field may be as long as a file; the limit is one for all of this process."""
+    """In this context, a field may be as long as a file; the limit applies to the whole process."""
     usual = csv.field_size_limit(LONGEST_FILE)
     try:
         yield

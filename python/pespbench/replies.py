@@ -1,4 +1,4 @@
-"""Replies of the program, from its lines to answers (docs/FORMATS.md, *From a program*)."""
+"""The program's replies, parsed into answers (docs/FORMATS.md, *From a program*)."""
 
 from __future__ import annotations
 
@@ -9,21 +9,21 @@ from pespbench.answers import Answer, Domain, Infeasible, Optimum, Stopped, Tens
 from pespbench.commands import CHANGES, name_of
 from pespbench.faults import BadReply, Fault, Refused
 
-# How the replies to questions begin; each command can be refused or be a fault, too, and changes are answered by `ok`.
+# The first words of replies to queries; each command can also be refused or be a fault, and changes are answered by `ok`.
 BEGINNINGS = {
     "domains": {"domains"}, "tensions": {"tensions"}, "violations": {"violations"}, "cost": {"cost"}, "dump": {"#"},
     "optimum": {"optimum", "infeasible"}, "try": {"optimum", "infeasible", "stopped"}, "adopt": {"ok"},
     **dict.fromkeys(CHANGES, {"ok"}),
 }  # fmt: skip
-# Where in the first line the number of lines that follow stands, and how many these are at most.
+# The word of the first line with the number of lines that follow, and the limit of that number.
 COUNT_PLACES = {"domains": 1, "tensions": 1, "violations": 1, "optimum": 2, "stopped": 2, "#": 4}
 MOST_ROWS = {"domains": 20_000, "tensions": 100_000, "violations": 120_000, "optimum": 20_000, "stopped": 20_000, "#": 140_000}
-# The bytes of a line and of a reply: those of domains have most, of 1,440 minutes, and of 2,400,000 in all.
+# The limits in bytes of a line and of a reply: those of domains are longest, of 1,440 minutes, and of 2,400,000 in all.
 LONGEST_LINE, LONGEST_REPLY = 8_192, 16_777_216
 
 
 def following(first: str) -> int:
-    """How many lines follow the first line of a reply. Raises BadReply where the line does not say so."""
+    """The number of lines that follow the first line of a reply. Raises BadReply if the line does not give it."""
     words = first.split()
     if not words:
         raise BadReply(first)
@@ -36,7 +36,7 @@ def following(first: str) -> int:
 
 
 class Assembler:
-    """Puts the bytes of a stream together to replies, each a list of lines."""
+    """Assembles the bytes of a stream into replies, each a list of lines."""
 
     def __init__(self) -> None:
         self._held = b""
@@ -44,9 +44,9 @@ class Assembler:
         self._wanted, self._length = 1, 0
 
     def feed(self, data: bytes) -> Iterator[List[str]]:
-        """Takes bytes, and gives each reply that is whole by them.
+        """Accepts bytes, and yields each reply that they complete.
 
-        Raises BadReply where a line is no first line, and for what is longer than a reply can be.
+        Raises BadReply for an invalid first line, and for more than a reply can contain.
         """
         *whole, self._held = (self._held + data).split(b"\n")
         for line in whole:
@@ -60,7 +60,7 @@ class Assembler:
             raise BadReply(self._held[:LONGEST_LINE].decode(errors="replace"))
 
     def _text(self, line: bytes) -> str:
-        """A line. Raises BadReply for a character that no reply has, and for too many."""
+        """A line. Raises BadReply for a character that no reply contains, and for too many."""
         self._length += len(line) + 1
         text = line[: LONGEST_LINE + 1].decode(errors="replace")
         if len(line) > LONGEST_LINE or self._length > LONGEST_REPLY or not line.isascii() or b"_" in line:
@@ -68,12 +68,12 @@ class Assembler:
         return text
 
     def is_within_reply(self) -> bool:
-        """Whether a part of a reply is held."""
+        """Whether part of a reply has arrived."""
         return bool(self._held or self._lines)
 
 
 def replies_of(text: str) -> Iterator[List[str]]:
-    """The replies in a text, each a list of lines. Raises BadReply where a line is no first line, or the last is not whole."""
+    """The replies in a text, each a list of lines. Raises BadReply for an invalid first line, or an incomplete last reply."""
     assembler = Assembler()
     yield from assembler.feed(text.encode() if not text or text.endswith("\n") else f"{text}\n".encode())
     if assembler.is_within_reply():
@@ -81,7 +81,7 @@ def replies_of(text: str) -> Iterator[List[str]]:
 
 
 def is_reply_to(command: str, reply: Sequence[str]) -> bool:
-    """Whether a reply is one that a command can have; a command that is not known here can have any."""
+    """Whether a command can have this reply; an unknown command can have any."""
     first, name = reply[0].split()[0], name_of(command)
     if first in ("refused", "fault"):
         return True
@@ -91,7 +91,7 @@ def is_reply_to(command: str, reply: Sequence[str]) -> bool:
 
 
 def answer_of(reply: Sequence[str]) -> Answer:
-    """The answer that a reply tells; `ok` is None. Raises Refused or Fault for such a reply, BadReply for any other text."""
+    """The answer in a reply; `ok` is None. Raises Refused or Fault for such a reply, BadReply for any other text."""
     words = reply[0].split()
     try:
         if words[0] == "refused":
@@ -109,7 +109,7 @@ def _named(what: str, text: str) -> Optional[int]:
 
 
 def _answer(words: List[str], reply: Sequence[str]) -> Answer:
-    """The answer of a reply that is none of refused and fault. Raises ValueError, IndexError and KeyError for any other text."""
+    """The answer in a reply other than `refused` and `fault`. Raises ValueError, IndexError and KeyError for any other text."""
     name, rows = words[0], reply[1:]
     if name == "ok" or name == "infeasible":
         return None if name == "ok" else Infeasible()
@@ -135,7 +135,7 @@ def _answer(words: List[str], reply: Sequence[str]) -> Answer:
 
 
 def text_of(command: str, outcome: Union[Answer, Refused, Fault]) -> str:
-    """The reply that has such an outcome, to a command."""
+    """The reply to a command that has this outcome."""
     name = command.split()[0]
     if isinstance(outcome, (Refused, Fault)):
         return f"{outcome}\n"

@@ -1,4 +1,4 @@
-"""`search`: the optimum of a network, within a time or in parts over all processors."""
+"""`search`: the optimum of a network, within a time or in parts on all processors."""
 
 from __future__ import annotations
 
@@ -37,9 +37,9 @@ def add_parser(subparsers: "argparse._SubParsersAction[argparse.ArgumentParser]"
 
 
 def run(words: argparse.Namespace) -> int:
-    """Prints what is found, by stations or as the program would; the exit status is 1 where no timetable was found.
+    """Prints the result, by stations or like the program; the exit status is 1 if no timetable was found.
 
-    Raises what ended the search before its time, once what it had found is saved; an interrupt is told by the status.
+    Raises what ended the search early, after saving its result so far; for an interrupt the status reports it.
     """
     with open_network(words) as bench:
         if words.save:
@@ -61,7 +61,7 @@ def run(words: argparse.Namespace) -> int:
 
 
 def looked_for(bench: Bench, words: argparse.Namespace) -> Tuple[Found, Optional[BaseException]]:
-    """What a search finds; where something ends it before its time, the best that it had found, and what ended it."""
+    """The result of a search; if something ends it early, the best so far, and what ended it."""
     with Line() as line:
         try:
             return sought(bench, words, line), None
@@ -70,14 +70,14 @@ def looked_for(bench: Bench, words: argparse.Namespace) -> Tuple[Found, Optional
 
 
 def sought(bench: Bench, words: argparse.Namespace, watch: Watch) -> Found:
-    """What the search finds that was asked for."""
+    """The result of the requested search."""
     if words.parts:
         return optimum_in_parts(bench, spans=words.spans, ranges=words.ranges, workers=words.workers, watch=watch)
     return bench.search(words.seconds, watch=watch).found()
 
 
 def take_better(bench: Bench, found: Found, folder: str) -> Found:
-    """Makes what was found the working timetable, or the one that a folder has, where that meets everything and is cheaper."""
+    """Makes the timetable found the working timetable, or that of a folder, if that meets everything and is cheaper."""
     there = standing_in(bench, folder)
     if there.is_below(found.cost):
         found = there
@@ -87,7 +87,7 @@ def take_better(bench: Bench, found: Found, folder: str) -> Found:
 
 
 def standing_in(bench: Bench, folder: str) -> Stopped:
-    """The timetable of a folder with its cost in a bench, where it meets everything there."""
+    """The timetable of a folder with its cost in a bench, if it meets everything there."""
     try:
         there = own_file(folder, "times")
         listed = read_times(there) if there else {}

@@ -15,12 +15,12 @@ from pespbench.transport import OutOfTime, Reached
 
 MOST_SECONDS = 1_000_000
 SECONDS_TEXT = f"a search takes from 0 to {MOST_SECONDS:,} seconds"
-# What is called with each Progress.
+# A callback that receives each Progress.
 Watcher = Callable[[Progress], object]
 
 
 def check_limits(seconds: float, nodes: int) -> None:
-    """Raises ValueError for limits that no search can have."""
+    """Raises ValueError for limits out of range."""
     if not 0 <= seconds <= MOST_SECONDS:
         raise ValueError(SECONDS_TEXT)
     if not 1 <= nodes <= MOST_NODES:
@@ -40,7 +40,7 @@ class Search:
     """
 
     def __init__(self, session: Session, standing: Stopped, seconds: float, nodes: int, watch: Optional[Watcher]) -> None:
-        """A search with a number of nodes in its first step, from a known timetable, or from none."""
+        """A search with the given nodes in its first step, starting with a known timetable, or none."""
         self._session, self._pace, self._watch = session, Pace(nodes), watch
         self._network = session.work.network.copy()
         self._began = clock.monotonic()
@@ -52,7 +52,7 @@ class Search:
         return self
 
     def __next__(self) -> Progress:
-        """What the next step comes to. Raises ValueError where the network is another one than at first, Ended and BadReply."""
+        """The result of the next step. Raises ValueError if the network has changed, Ended and BadReply."""
         return next(self._rest)
 
     def _repr_html_(self) -> str:
@@ -89,7 +89,7 @@ class Search:
             return Reached(Stopped())
 
     def _told(self, reached: Reached) -> Progress:
-        """Tells what is known with what was reached: neither is its cost above that of before, nor its bound below."""
+        """Reports the result of a step, joined with earlier ones: the cost never rises, and the bound never falls."""
         before, found, bounds = self.progress, reached.found, [self.progress.lower_bound, reached.lower_bound]
         if isinstance(found, Stopped) and not found.is_below(before.cost):
             found = before.found

@@ -1,4 +1,4 @@
-"""A network in an engine that is opened again, with all that was accepted, where it has ended."""
+"""A network in an engine, which is reopened with all accepted commands if it has ended."""
 
 from __future__ import annotations
 
@@ -19,22 +19,22 @@ from pespbench.work import Work, work_of
 
 Kind = TypeVar("Kind")
 Outcome = Union[Answer, Refused, Fault]
-# What is told after a move.
+# The result of a move.
 Cost = Union[int, Refused, Fault]
-# As many lines are sent at once.
+# The number of lines that are sent at once.
 BATCH = 50_000
 
 
 class Session:
-    """The work as the client knows it, an engine that has the same, and the journal of what was accepted."""
+    """The client's view of network and times, an engine with the same state, and the journal of accepted changes."""
 
     def __init__(self, engine: Engine, work: Work, transport: Optional[Transport] = None, journal: Optional[Journal] = None) -> None:
         self.engine = engine
         self.work = work
         self.journal = Journal() if journal is None else journal
-        # Changes below this place are not taken back: those from before a trial.
+        # Changes below this place, from before a trial, are not undone.
         self.floor = 0
-        # How long an answer is waited for that has no deadline.
+        # How long to wait for an answer without a deadline.
         self.patience = PATIENT
         self._transport = transport
         self._is_closed = False
@@ -43,7 +43,7 @@ class Session:
     def opened(
         cls, engine: Engine, period: int, paths: Mapping[str, Optional[Path]], journal: Journal, patience: Patience = PATIENT
     ) -> "Session":
-        """Opens files, and asks what they have. Raises Ended where they are not taken, and BadReply."""
+        """Opens files, and queries their contents. Raises Ended if they are refused, and BadReply."""
         transport = engine.opened(period, paths)
         try:
             with patience_with(engine, patience.seconds).of_files(paths.values()) as deadline:
@@ -58,7 +58,7 @@ class Session:
 
     @contextmanager
     def waiting(self, seconds: float) -> Iterator[None]:
-        """Within, an answer that is no search is waited for so long at most, where no patience was given."""
+        """In this context, an answer that is not a search's is awaited at most this long, unless a patience was given."""
         before = self.patience
         self.patience = patience_with(self.engine, seconds) if before.seconds is None else before
         try:
@@ -67,37 +67,37 @@ class Session:
             self.patience = before
 
     def in_library(self) -> "Session":
-        """This session, or one over the library beside its program, with the same work. Raises NoLibrary where there is none."""
+        """This session, or one over the library beside its program, with the same work. Raises NoLibrary if there is none."""
         if self.engine.name == "library":
             return self
         return Session(Engine.of("library", program=self.engine.path), self.work)
 
     def open(self, lines: int) -> None:
-        """Has an engine there with room for so many lines. Raises Ended and BadReply."""
+        """Opens the engine if necessary, with room for this many lines. Raises Ended and BadReply."""
         with self._whole():
             self._ready(lines)
 
     def close(self) -> None:
-        """Ends the engine; there are no more answers then."""
+        """Ends the engine; nothing is answered afterwards."""
         self._is_closed = True
         transport, self._transport = self._transport, None
         if transport is not None:
             transport.close()
 
     def drop(self) -> None:
-        """Ends the engine by force. The next use opens it again."""
+        """Ends the engine by force. The next use reopens it."""
         transport, self._transport = self._transport, None
         if transport is not None:
             transport.kill()
 
     def end(self) -> None:
-        """Ends the engine by force, from whatever thread; who waits for it is raised Ended."""
+        """Ends the engine by force; any thread may call it, and the one that waits for an answer receives Ended."""
         transport = self._transport
         if transport is not None:
             transport.end()
 
     def _ready(self, lines: int) -> Transport:
-        """The engine, with room for so many lines, and with all that was accepted. Raises ValueError where it is closed."""
+        """The engine, with room for this many lines, and with all accepted commands. Raises ValueError if it is closed."""
         if self._is_closed:
             raise ValueError("the bench is closed")
         if self._transport is not None and self._transport.is_full(lines):
@@ -114,7 +114,7 @@ class Session:
 
     @contextmanager
     def _whole(self) -> Iterator[None]:
-        """Drops the engine where what is done within does not come to its end; so the next use agrees with the work."""
+        """Drops the engine if the context does not end normally; so the next use agrees with the work."""
         try:
             yield
         except BaseException:
@@ -122,10 +122,10 @@ class Session:
             raise
 
     def outcomes(self, commands: Sequence[str], deadline: Optional[float] = None) -> Iterator[Outcome]:
-        """The outcome of each command, as it comes; what is accepted goes to the work and to the journal.
+        """The outcome of each command, as it arrives; accepted changes go to the work and to the journal.
 
-        Where the caller stops, or anything is raised, the engine is dropped, and nothing that came is lost. Raises Ended,
-        OutOfTime and BadReply.
+        If the caller stops, or anything is raised, the engine is dropped, and no outcome is lost. Raises Ended, OutOfTime
+        and BadReply.
         """
         for start in range(0, len(commands), BATCH):
             yield from self._batch(commands[start : start + BATCH], deadline)
@@ -138,7 +138,7 @@ class Session:
         return outcome
 
     def _batch(self, commands: Sequence[str], deadline: Optional[float]) -> Iterator[Outcome]:
-        # What is adopted is told by no reply but that of `optimum`, which is known then.
+        # Only the reply to `optimum` says what is adopted; that is known by then.
         lines = [line for command in commands for line in ([command, "optimum"] if command.split() == ["adopt"] else [command])]
         with self._whole():
             transport = self._ready(len(lines))
@@ -153,7 +153,7 @@ class Session:
                     yield outcome
 
     def _outcome(self, command: str, reply: Sequence[str]) -> Outcome:
-        """The outcome that a reply tells. Raises BadReply, also where it is none about this network."""
+        """The outcome in a reply. Raises BadReply, also for a reply that does not fit this network."""
         outcome = outcome_of(command, reply)
         if not fits(outcome, self.work.network):
             raise BadReply(reply[0])
@@ -161,14 +161,14 @@ class Session:
 
     def _accept(self, command: str) -> None:
         name, numbers = split(command)
-        # Times are set most often, and take the least room in the journal where they are written as it writes them.
+        # Setting times is the most frequent change, and takes the least memory in the journal's own form.
         if name == "time" and command == f"time {numbers[0]} {numbers[1]}":
             self._take_move(*numbers)
         else:
             self.journal.append(Change((command,), tuple(self.work.apply(command))))
 
     def moves(self, moves: Sequence[Tuple[int, int]]) -> Iterator[Cost]:
-        """Sets times, and gives the cost after each, or its refusal; as `outcomes` in all else."""
+        """Sets times, and yields the cost after each, or its refusal; otherwise like `outcomes`."""
         for start in range(0, len(moves), BATCH):
             yield from self._moves(moves[start : start + BATCH])
 
@@ -193,13 +193,13 @@ class Session:
         raise BadReply(str(outcome))
 
     def _take_move(self, event: int, time: int) -> None:
-        # Where this is broken off after the first, what would be taken back was not done yet, and is as it was.
+        # If this is interrupted after the first, the change that would be undone was not made yet, and is unaffected.
         times = self.work.times
         self.journal.append((event, time, times.get(event)))
         times[event] = time
 
     def searched(self, nodes: int, deadline: float) -> Reached:
-        """What a search of so many nodes comes to, which leaves all as it was. Raises what `answer` raises."""
+        """The result of a search with this many nodes, which changes nothing. Raises what `answer` raises."""
         reached = self.by_call(lambda transport: transport.searched(nodes, self.work.network.events, deadline))
         if reached is not None:
             return reached
@@ -207,13 +207,13 @@ class Session:
             return Reached(found_by(self.answer(f"try {nodes}", deadline)))
 
     def by_call(self, call: Callable[[Transport], Kind]) -> Kind:
-        """What a call of the engine comes to, which leaves all as it was. Raises what the call raises."""
-        # What has no deadline in it is to open the engine again.
+        """The result of a call of the engine, which changes nothing. Raises what the call raises."""
+        # Only reopening the engine has no deadline.
         with self.waiting(0), self._whole():
             return call(self._ready(1))
 
     def set_time(self, event: int, time: int) -> bool:
-        """Sets a time where the engine does that at once and it is accepted; else nothing has changed."""
+        """Sets a time if the engine does that at once and accepts it; otherwise nothing has changed."""
         transport = self._transport
         if transport is None:
             return False
@@ -227,12 +227,12 @@ class Session:
         return True
 
     def cost(self) -> Optional[int]:
-        """The cost where the engine tells it at once."""
+        """The cost if the engine returns it at once."""
         transport = self._transport
         return None if transport is None else transport.cost()
 
     def _adopted(self, outcome: Outcome, optimum: Outcome) -> Outcome:
-        """The outcome of `adopt`: the optimum that it took, or its refusal."""
+        """The outcome of `adopt`: the adopted optimum, or the refusal."""
         if outcome is not None:
             return outcome
         if not isinstance(optimum, Optimum):
@@ -241,15 +241,15 @@ class Session:
         return optimum
 
     def take_times(self, times: Mapping[int, int]) -> None:
-        """Notes that the engine has other times now."""
+        """Records that the engine has other times now."""
         commands = Work.change_to(self.work.times, times)
         self.journal.append(Change(tuple(commands), tuple(self.work.set_times(times))))
 
     def take_back(self, mark: int) -> List[str]:
-        """Takes back what was accepted above a place of the journal, and gives those commands.
+        """Undoes the changes above a place of the journal, and returns their commands.
 
-        The work goes first, and then the engine, which is dropped where that fails: so both agree at its next use. Raises
-        NotKept where the journal has not all of it.
+        The work changes first, and then the engine, which is dropped if that fails: so both agree at its next use. Raises
+        NotKept if some of the changes are no longer kept.
         """
         if len(self.journal) <= mark:
             return []
@@ -263,12 +263,12 @@ class Session:
 
 
 def patience_with(engine: Engine, seconds: Optional[float]) -> Patience:
-    """The patience with an engine: the library is a part of this process, and cannot be ended."""
+    """The patience with an engine: the library is part of this process, and cannot be killed."""
     return PATIENT if engine.name == "library" else Patience(seconds)
 
 
 def outcome_of(command: str, reply: Sequence[str]) -> Outcome:
-    """The answer of a reply, or its refusal or fault as a value. Raises BadReply, also for a reply to another command."""
+    """The answer in a reply, or its refusal or fault as a value. Raises BadReply, also for a reply to another command."""
     if not is_reply_to(command, reply):
         raise BadReply(f"{reply[0]} to {command}")
     try:
@@ -278,7 +278,7 @@ def outcome_of(command: str, reply: Sequence[str]) -> Outcome:
 
 
 def sync(transport: Transport, commands: Sequence[str], patience: Patience) -> None:
-    """Gives an engine commands that it has to accept. Raises BadReply where it does not, and Ended."""
+    """Sends commands that the engine has to accept. Raises BadReply if it does not, and Ended."""
     with patience.of_lines(len(commands)) as until:
         for command, reply in zip(commands, transport.replies(commands, until)):
             if reply != ["ok"]:
@@ -286,7 +286,7 @@ def sync(transport: Transport, commands: Sequence[str], patience: Patience) -> N
 
 
 def dumped(reply: Sequence[str], period: int) -> Work:
-    """What the reply to `dump` makes. Raises BadReply for what is none, or no network of this period."""
+    """The network of a reply to `dump`. Raises BadReply for any other text, and for a network of another period."""
     try:
         work = work_of(list(reply[1:]), period)
     except (KeyError, IndexError, TypeError, ValueError):

@@ -1,4 +1,4 @@
-"""`shell`: the program at a terminal, with what the client adds: Ctrl-C keeps the network, Tab completes, and OWN has more words."""
+"""`shell`: the program at a terminal, with additional commands (OWN): Ctrl-C keeps the network, and Tab completes."""
 
 from __future__ import annotations
 
@@ -51,7 +51,7 @@ Of this shell:
 Ctrl-C ends a long search, and no accepted change is lost. Tab completes words and numbers.
 """
 ENDS = ("quit", "exit")
-# What may take long of what the shell adds.
+# The shell's own commands that may take long.
 LONG = ("search", "mend", "why", "helps")
 
 
@@ -98,7 +98,7 @@ class Desk:
 
 
 def run(words: argparse.Namespace) -> int:
-    """Answers lines of standard input until it ends; a search that goes on then is given up."""
+    """Answers lines of standard input until it ends; a search that is running then is abandoned."""
     given = Given()
     with open_network(words) as bench:
         desk = Desk(bench)
@@ -117,7 +117,7 @@ def run(words: argparse.Namespace) -> int:
 
 
 def is_left(desk: Desk, line: str, given: Given) -> bool:
-    """Tells what there is to a line; whether the input has ended while it was searched for, so that nobody waits for it."""
+    """Prints the answer to a line; whether the input ended during its search, so that nobody waits for it."""
     searches = line.split()[0] in (*SEARCHES, *LONG)
     with given.kept_by(desk.bench._session.end) if searches else nullcontext() as ending:
         text = told(desk, line)
@@ -128,7 +128,7 @@ def is_left(desk: Desk, line: str, given: Given) -> bool:
 
 
 def told(desk: Desk, line: str) -> str:
-    """What is printed for a line: its answer, or what was raised, whatever it is, since no line ends the shell."""
+    """The text for a line: its answer, or any exception, since no line ends the shell."""
     try:
         return answer(desk, line)
     except Exception as fault:
@@ -136,7 +136,7 @@ def told(desk: Desk, line: str) -> str:
 
 
 def answer(desk: Desk, line: str) -> str:
-    """What is printed for a line. Raises what the client raises, and ValueError for a word of the shell without its number."""
+    """The text for a line. Raises what the client raises, and ValueError for a word of the shell without its number."""
     name, _, rest = line.partition(" ")
     if name in OWN:
         return OWN[name](desk, rest.strip())
@@ -144,7 +144,7 @@ def answer(desk: Desk, line: str) -> str:
 
 
 def limit_of(time: str) -> float:
-    """The seconds that a search has. Raises ValueError."""
+    """The seconds of a search. Raises ValueError."""
     try:
         return seconds(time)
     except argparse.ArgumentTypeError as fault:

@@ -19,13 +19,13 @@ if TYPE_CHECKING:
     from pespbench.client import Bench
 
 NO_TIME = 11
-# So many rows, or names, are shown at most.
+# The greatest number of rows, or names, shown.
 MOST_SHOWN = 10
 WIDTH = 480
 
 
 def bench_html(bench: "Bench") -> str:
-    """The network's numbers, cost and violations, and the netgraph where stations have names and Node draws it. Raises Refused."""
+    """The network's numbers, cost and violations, and the netgraph if stations have names and Node can draw it. Raises Refused."""
     facts = [("network", counted(bench.network))]
     try:
         facts += [("cost", f"{bench.cost():,}"), ("violations", violated(bench.violations(), Names(bench.labels, bench.network.activities)))]
@@ -46,7 +46,7 @@ def network_html(network: Network) -> str:
 
 
 def search_html(progress: Progress) -> str:
-    """What it has come to."""
+    """The state of a search."""
     gap = "not known" if progress.gap is None else f"{progress.gap:.1%}"
     bound = "not known" if progress.lower_bound is None else f"{progress.lower_bound:,}"
     facts = [("found", found_text(progress.found)), ("lower bound", bound), ("gap", gap), ("seconds", f"{progress.seconds:.1f}")]
@@ -54,32 +54,32 @@ def search_html(progress: Progress) -> str:
 
 
 def counted(network: Network) -> str:
-    """How large a network is."""
+    """The size of a network."""
     return f"{len(network.windows):,} events, {len(network.activities):,} activities, period {network.period}"
 
 
 def violated(violations: Violations, names: Names) -> str:
-    """How many violations there are, and the first by their names."""
+    """The number of violations, and the names of the first."""
     told = [*map(names.activity, violations.activities[:MOST_SHOWN]), *map(names.event, violations.events[:MOST_SHOWN])]
     dots = ", .." if len(told) < len(violations) else ""
     return f"{len(violations)}: {', '.join(told)}{dots}" if told else "none"
 
 
 def table(rows: Iterable[Sequence[object]], titles: Sequence[str] = ()) -> str:
-    """A table of texts, with titles where there are any."""
+    """A table of texts, with titles if there are any."""
     head = "".join(f"<th>{escape(title)}</th>" for title in titles)
     body = "".join(f"<tr>{''.join(f'<td>{escape(shown(str(cell)))}</td>' for cell in row)}</tr>" for row in rows)
     return f"<table>{f'<tr>{head}</tr>' if head else ''}{body}</table>"
 
 
 def picture(bench: "Bench") -> str:
-    """The netgraph, as an image whose style is its own; nothing where it is not drawn."""
+    """The netgraph, as an image with a style of its own; nothing if it cannot be drawn."""
     svg = netgraph(bench)
     return "" if svg is None else f'<img width="{WIDTH}" alt="netgraph" src="data:image/svg+xml;base64,{b64encode(svg.encode()).decode()}">'
 
 
 def netgraph(bench: "Bench") -> Optional[str]:
-    """The page's drawing, or None where no stations have names, or there is no page or no Node."""
+    """The page's drawing, or None if no stations have names, or the page or Node is missing."""
     if len({each.station for each in bench.labels.events.values()} - {""}) < 2:
         return None
     from pespbench.report import gather, netgraph_of

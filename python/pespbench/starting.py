@@ -1,4 +1,4 @@
-"""Starts programs so that none outlives the process that uses it, whatever ends that."""
+"""Starts programs so that none outlives the process that uses it, however that ends."""
 
 from __future__ import annotations
 
@@ -16,10 +16,10 @@ PR_SET_PDEATHSIG = 1
 
 
 def started(words: Sequence[str]) -> "subprocess.Popen[bytes]":
-    """Starts a program with pipes to its input and from its outputs. Raises OSError where it cannot be started.
+    """Starts a program with pipes to its input and from its outputs. Raises OSError if it cannot be started.
 
-    It has a session of its own, so that Ctrl-C at a terminal reaches the client alone. On Linux the kernel ends it with the
-    thread that has started it, so that is one that lives as long as the process.
+    It has a session of its own, so that Ctrl-C at a terminal reaches only the client. On Linux the kernel ends it with the
+    thread that started it, so that must be one that lives as long as the process.
     """
     if threading.current_thread() is threading.main_thread():
         return _start(words)
@@ -28,7 +28,7 @@ def started(words: Sequence[str]) -> "subprocess.Popen[bytes]":
 
 def _start(words: Sequence[str]) -> "subprocess.Popen[bytes]":
     pipe, prctl = subprocess.PIPE, _prctl()
-    # What runs between the fork and the program takes no lock and imports nothing.
+    # The code between the fork and the program takes no lock and imports nothing.
     bound = None if prctl is None else functools.partial(_end_with, os.getpid(), prctl)
     return subprocess.Popen(
         words, bufsize=0, stdin=pipe, stdout=pipe, stderr=pipe, start_new_session=True, preexec_fn=bound
@@ -43,7 +43,7 @@ def _end_with(parent: int, prctl: Callable[[int, int], int]) -> None:
 
 @functools.lru_cache(maxsize=None)
 def _prctl() -> Optional[Callable[[int, int], int]]:
-    """The call of the C library, or None where there is none such."""
+    """The function of the C library, or None if it is missing."""
     if not sys.platform.startswith("linux"):
         return None
     try:
@@ -59,5 +59,5 @@ def _lasting_thread() -> ThreadPoolExecutor:
     return ThreadPoolExecutor(1, thread_name_prefix="pespbench")
 
 
-# The threads of a process are not there in one that is forked from it.
+# A forked process does not have its parent's threads.
 os.register_at_fork(after_in_child=_lasting_thread.cache_clear)

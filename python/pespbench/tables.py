@@ -9,10 +9,10 @@ from typing import Any, Dict, Iterable, Iterator, List, Mapping, NamedTuple, Opt
 from pespbench.labels import EventLabel, Labels
 from pespbench.network import Activity, Network
 
-# What a network is made of: one that is known, or rows, as those of a DataFrame.
+# A known network, or rows, such as those of a DataFrame.
 Given = Union[Network, Iterable[Any]]
 NUMBERS = ("activity", "from_event", "to_event", "lower", "upper", "weight")
-# What columns may be called beside their own names, as files have them.
+# Other names of columns, as in files.
 OTHER_NAMES = {"from_event": "from", "to_event": "to"}
 USUAL_PERIOD = 60
 
@@ -69,7 +69,7 @@ def network_of(given: Given, period: Optional[int]) -> Tuple[Network, Labels]:
 
 
 def records_of(given: Any) -> Iterator[Any]:
-    """The rows of a DataFrame as mappings, and all others as they are."""
+    """The rows of a DataFrame as mappings, and all others unchanged."""
     is_frame = hasattr(given, "columns") and hasattr(given, "to_dict")
     return iter(given.to_dict("records") if is_frame else given)
 
@@ -88,7 +88,7 @@ def activity_of(row: Any) -> Tuple[Activity, str]:
 def graph_of(network: Network, times: Mapping[int, int], labels: Labels) -> Any:
     """A MultiDiGraph of networkx: events with their labels, windows and times, and activities, by number, with their rows.
 
-    Raises ModuleNotFoundError where networkx is not installed.
+    Raises ModuleNotFoundError if networkx is not installed.
     """
     graph = import_module("networkx").MultiDiGraph(period=network.period)
     for event in network.events:

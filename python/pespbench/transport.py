@@ -1,4 +1,4 @@
-"""What a session asks: a network somewhere that answers command lines."""
+"""The interface of a session to its engine, which answers command lines about a network."""
 
 from __future__ import annotations
 
@@ -7,7 +7,7 @@ from typing import Iterator, List, NamedTuple, Optional, Sequence, Tuple, Union
 
 from pespbench.answers import Found
 
-# The cost after a move, or the replies to `time` and to `cost` where they are others.
+# The cost after a move, or the replies to `time` and to `cost` if these were not accepted.
 AfterMove = Union[int, Tuple[List[str], List[str]]]
 COST = re.compile("cost ([0-9]{1,17})")
 
@@ -17,9 +17,9 @@ class OutOfTime(Exception):
 
 
 class Reached(NamedTuple):
-    """What a search came to, and what each timetable that meets everything costs at least, where that is told.
+    """The result of a search, and a lower bound of the cost of each timetable that meets everything, if there is one.
 
-    Where it `goes_on`, the next one of the same network begins where this one stopped, and else anew.
+    If it `goes_on`, the next search of the same network resumes this one, and otherwise it restarts.
     """
 
     found: Found
@@ -31,15 +31,15 @@ class Transport:
     """A network that answers command lines."""
 
     def replies(self, commands: Sequence[str], deadline: Optional[float] = None) -> Iterator[List[str]]:
-        """Gives the reply to each command as it comes, a list of lines.
+        """Yields the reply to each command as it arrives, a list of lines.
 
-        Where the caller stops before the last, it is of no more use. The deadline is one of `time.monotonic`. Raises Ended
-        where it ends, OutOfTime at the deadline, and BadReply: then no reply that is not given yet can be relied on.
+        If the caller stops before the last, the engine can no longer be used. The deadline is one of `time.monotonic`.
+        Raises Ended if the engine ends, OutOfTime at the deadline, and BadReply: then no later reply is reliable.
         """
         raise NotImplementedError
 
     def moved(self, moves: Sequence[Tuple[int, int]], deadline: Optional[float] = None) -> Iterator[AfterMove]:
-        """Sets times, and gives what is told after each. Raises what `replies` raises."""
+        """Sets times, and yields the result of each. Raises what `replies` raises."""
         replies = self.replies([line for event, time in moves for line in (f"time {event} {time}", "cost")], deadline)
         for reply in replies:
             told = next(replies)
@@ -47,22 +47,22 @@ class Transport:
             yield (reply, told) if cost is None else int(cost[1])
 
     def set_time(self, event: int, time: int) -> bool:
-        """Sets a time where that can be done at once and is accepted; else nothing has changed."""
+        """Sets a time if that can be done at once and is accepted; otherwise nothing has changed."""
         return False
 
     def cost(self) -> Optional[int]:
-        """The cost where it can be told at once."""
+        """The cost if it is known at once."""
         return None
 
     def searched(self, nodes: int, events: Sequence[int], deadline: Optional[float] = None) -> Optional[Reached]:
-        """What a search of so many nodes comes to, where it tells more than a reply; `events` are all, ascending.
+        """The result of a search with this many nodes, if it returns more than a reply; `events` are all, ascending.
 
-        It may come to its end after the deadline. Raises what `replies` raises.
+        It may end after the deadline. Raises what `replies` raises.
         """
         return None
 
     def priced(self, event: int, time: int, nodes: int, deadline: Optional[float] = None) -> Optional[Reached]:
-        """What a search with the event at a time comes to, without its times, where there is a call for it. As `searched`."""
+        """The result of a search with the event at a time, without its times, if there is a call for it. Like `searched`."""
         return None
 
     def priced_tension(self, activity: int, tension: int, nodes: int, deadline: Optional[float] = None) -> Optional[Reached]:
@@ -70,11 +70,11 @@ class Transport:
         return None
 
     def tried(self, event: int, time: int) -> Optional[int]:
-        """By how much a time would change the cost, where that can be told at once; nothing changes."""
+        """By how much a time would change the cost, if that is known at once; nothing changes."""
         return None
 
     def is_full(self, lines: int) -> bool:
-        """Whether it does not take so many lines more."""
+        """Whether it would reach its limit with this many more lines."""
         return False
 
     def close(self) -> None:
@@ -82,9 +82,9 @@ class Transport:
         self.kill()
 
     def kill(self) -> None:
-        """Ends it by force, or leaves what it has under way to itself."""
+        """Ends it by force, or abandons its running call."""
         raise NotImplementedError
 
     def end(self) -> None:
-        """Ends it from whatever thread; who waits for it, or asks it next, is raised Ended."""
+        """Ends it; any thread may call this, and the one that waits for an answer, or asks next, receives Ended."""
         raise NotImplementedError

@@ -1,6 +1,6 @@
-"""A timetable turned to agree with another one, as the page turns it (page/script/base/turning.js).
+"""Shifts a timetable to agree with another one, as the page does (page/script/base/turning.js).
 
-Where nothing of a part of the network is held, all of that part may be later by as many minutes, at the same cost.
+A part of the network in which nothing is held may be shifted as a whole, at the same cost.
 """
 
 from __future__ import annotations
@@ -12,7 +12,7 @@ from pespbench.network import Network, parts_of
 
 
 def turns(network: Network, times: Mapping[int, int], shown: Mapping[int, int]) -> Iterator[Tuple[List[int], int]]:
-    """The events of each part whose times are turned to agree with those that are shown, and by how many minutes."""
+    """The events of each part whose times are shifted to agree with those that are shown, and by how many minutes."""
     joins = [(each.from_event, each.to_event) for each in network.activities.values()]
     for part in parts_of(network.windows, joins):
         events = sorted(event for event in part if event in times)
@@ -23,6 +23,6 @@ def turns(network: Network, times: Mapping[int, int], shown: Mapping[int, int]) 
 
 
 def turn_of(events: Iterable[int], times: Mapping[int, int], shown: Mapping[int, int], period: int) -> int:
-    """By how many minutes most of some events are turned from where they are shown; of several the fewest, either way."""
+    """The shift by which most of some events agree with the times shown; of several the smallest, either way."""
     votes = Counter((shown[event] - times[event]) % period for event in events if event in shown)
     return max(votes, key=lambda turn: (votes[turn], -min(turn, period - turn), -turn), default=0)

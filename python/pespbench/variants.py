@@ -18,30 +18,30 @@ from pespbench.session import Outcome, Session
 from pespbench.work import work_of
 from pespbench.workers import Bar, Driver, Hands, LentHands, Lost, OwnHands
 
-# How many variants an executor of the caller is given at once, where it is not said.
+# How many variants the caller's executor receives at once, by default.
 AT_ONCE = 1_000
 
 
 @dataclass(frozen=True)
 class Base:
-    """A network that can be sent to other processes: the engine that opens it there, and the commands that make it."""
+    """A network that can be sent to other processes: the engine that opens it there, and the commands that build it."""
 
     engine: Engine
     period: int
     script: Tuple[str, ...]
-    # Has something as soon as nothing more is to be asked; of threads of this process alone, which have this very object.
+    # Is set as soon as all work must end; only threads of this process, which share this object, see it.
     over: List[bool] = field(default_factory=list, compare=False, repr=False)
 
     @classmethod
     def of(cls, bench: Bench, program: Union[str, "os.PathLike[str]", None] = None) -> "Base":
-        """The network and the times of a bench, for another program where one is named."""
+        """The network and the times of a bench, for another program if one is named."""
         engine = bench.engine if program is None else Engine("program", os.fspath(program))
         return cls(engine, bench.period, tuple(bench._session.work.script()))
 
 
 @dataclass(frozen=True)
 class Task:
-    """One variant: the base, the edits on it, and what is asked then."""
+    """One variant: the base, the edits on it, and the command then."""
 
     base: Base
     edits: Tuple[str, ...]
@@ -56,7 +56,7 @@ class Opened(threading.local):
         self._bench: Optional[Bench] = None
 
     def bench(self, base: Base) -> Bench:
-        """The bench of a base, which is opened where it is another one than before."""
+        """The bench of a base, which is opened if it is not the previous one."""
         if self._bench is None or self._base != base:
             if self._bench is not None:
                 self._bench.close()
@@ -66,17 +66,18 @@ class Opened(threading.local):
 
 
 _opened = Opened()
-# What the threads of this process have in hand, by thread.
+# The base and the bench in use by each thread of this process.
 _in_hand: Dict[int, Tuple[Base, Bench]] = {}
 
 
 @contextmanager
 def in_hand(base: Base, lines: int) -> Iterator[Bench]:
-    """The bench of a base in this worker, with room for so many lines. Raises Ended where all is over, and BadReply."""
+    """The bench of a base in this worker, with room for this many lines. Raises Ended if all work has ended, and BadReply."""
     bench = _opened.bench(base)
     _in_hand[threading.get_ident()] = base, bench
     try:
-        # Who ends all finds an engine here to end, or this finds that all is over: so it is opened before it looks.
+        # Whoever ends all work either finds this engine to end, or this finds that all work is over: so it is opened before the
+        # check.
         bench._session.open(lines)
         if base.over:
             raise Ended(-signal.SIGKILL, "")
@@ -86,7 +87,7 @@ def in_hand(base: Base, lines: int) -> Iterator[Bench]:
 
 
 def answer_task(task: Task) -> Outcome:
-    """The answer to a variant, or the first refusal of its edits. Raises Ended, also where all is over, and BadReply."""
+    """The answer to a variant, or the first refusal of its edits. Raises Ended, also if all work has ended, and BadReply."""
     with in_hand(task.base, 2 * len(task.edits) + 2) as bench, bench.trial():
         *edits, answer = bench.many([*task.edits, task.question])
     return next((outcome for outcome in edits if isinstance(outcome, (Refused, Fault))), answer)
@@ -94,7 +95,7 @@ def answer_task(task: Task) -> Outcome:
 
 @contextmanager
 def at_work(hands: Hands, base: Base) -> Iterator[None]:
-    """Lets hands go at the end, however it comes; where something is raised, no thread of this process waits for a search."""
+    """Releases hands at the end, however it comes; if something is raised, no thread of this process waits for a search."""
     try:
         yield
     except BaseException:
@@ -143,7 +144,7 @@ def variants(
 
 
 def hands_of(executor: Optional[Executor], workers: Optional[int], at_once: int) -> Hands:
-    """The caller's executor, which is given `workers` tasks at once, or so many processes of this machine.
+    """The caller's executor, which receives `workers` tasks at once, or this number of processes of this machine.
 
     Raises ValueError for workers below 1.
     """

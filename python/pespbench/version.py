@@ -1,4 +1,4 @@
-"""The version, whose number is only in the file VERSION. `+unreleased` says that more has changed since."""
+"""The version, whose number is only in the file VERSION. `+unreleased` means that more has changed since."""
 
 from __future__ import annotations
 

@@ -1,4 +1,4 @@
-"""What is told while a search goes on, and the line at a terminal that shows it."""
+"""Reports on a running search, and the line at a terminal that shows them."""
 
 from __future__ import annotations
 
@@ -12,7 +12,7 @@ from pespbench.progress import Progress
 
 
 class Watch:
-    """Is told what a search comes to; `best` is the best timetable so far, with a cost of None where there is none."""
+    """Receives the results of a search; `best` is the best timetable so far, with a cost of None if there is none."""
 
     def __init__(self) -> None:
         self.best = Stopped()
@@ -20,13 +20,13 @@ class Watch:
         self.parts = ""
 
     def __call__(self, progress: Progress) -> None:
-        """What a search has come to."""
+        """The result of a search."""
         self.take(Stopped(progress.cost, progress.times or {}))
         if progress.lower_bound is not None:
             self.take_bound(progress.lower_bound)
 
     def take(self, found: Stopped) -> None:
-        """A timetable that meets everything; it is the best one where it is cheaper than all before."""
+        """A timetable that meets everything; it is the best one if it is cheaper than all before."""
         if found.is_below(self.best.cost):
             self.best = found
 
@@ -35,12 +35,12 @@ class Watch:
         self.bound = cost
 
     def take_parts(self, done: int, total: int) -> None:
-        """So many parts of a search are done."""
+        """This many parts of a search are done."""
         self.parts = f"{done} of {total} parts"
 
 
 class Line(Watch):
-    """Shows it in one line on standard error that is written again each second, where that is a terminal."""
+    """Shows it in one line on standard error, rewritten each second, if that is a terminal."""
 
     def __init__(self, stream: Optional[TextIO] = None) -> None:
         super().__init__()
@@ -57,14 +57,14 @@ class Line(Watch):
         return self
 
     def __exit__(self, *_: object) -> None:
-        """Ends the line as it is; what comes then stands below it."""
+        """Ends the line; later output is below it."""
         if self._is_shown:
             self._is_over.set()
             self._ticker.join()
             self._show("\n")
 
     def text(self) -> str:
-        """What the line has at present."""
+        """The present text of the line."""
         best = "no timetable yet" if self.best.cost is None else f"best cost {self.best.cost:,}"
         bound = None if self.bound is None else f"bound {self.bound:,}"
         return ", ".join(filter(None, [f"{time.monotonic() - self._began:.0f} s", best, bound, self.parts]))
@@ -75,12 +75,12 @@ class Line(Watch):
 
     def _show(self, end: str) -> None:
         text = self.text()
-        # Blanks hide what was longer before.
+        # Blanks overwrite the rest of a longer text.
         blanks = " " * (self._width - len(text))
         self._width = len(text)
         try:
             self._stream.write(f"\r{text}{blanks}{end}")
             self._stream.flush()
         except OSError:
-            # The terminal is gone; the search is not.
+            # The terminal is gone; the search continues.
             self._is_shown = False

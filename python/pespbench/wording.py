@@ -1,4 +1,4 @@
-"""Events and activities in a planner's words: by stations and lines where there are labels, else by numbers."""
+"""Events and activities in a planner's words: by stations and lines if there are labels, otherwise by numbers."""
 
 from __future__ import annotations
 
@@ -40,7 +40,7 @@ def train_name(event: Named) -> str:
 
 
 def event_name(event: Named) -> str:
-    """An event, as `R1 to Cranley leaves Benton`, or `event 7` where it has no station."""
+    """An event, such as `R1 to Cranley leaves Benton`, or `event 7` if it has no station."""
     if not event.station:
         return f"event {event.number}"
     if event.kind in DONE:
@@ -49,7 +49,7 @@ def event_name(event: Named) -> str:
 
 
 def activity_name(activity: NamedKind, first: Named, last: Named) -> str:
-    """An activity, as `change at Benton from R1 to Cranley to R3 to Dale`, or by the numbers of its events."""
+    """An activity, such as `change at Benton from R1 to Cranley to R3 to Dale`, or by the numbers of its events."""
     kind = activity.kind or "activity"
     if not (first.station and last.station):
         return f"{kind} {activity.number} from {event_name(first)} to {event_name(last)}"
@@ -72,17 +72,17 @@ def minutes(count: int) -> str:
 
 
 def span_text(lower: int, upper: int) -> str:
-    """A span, as `4 to 10`, or `4` where it has one value."""
+    """A span, as `4 to 10`, or `4` if it has one value."""
     return str(lower) if lower == upper else f"{lower} to {upper}"
 
 
 def is_of_hours(period: int) -> bool:
-    """Whether minutes of a period are told with their hour, as the page tells them too."""
+    """Whether minutes of a period are written with their hour, as on the page."""
     return period > 60
 
 
 def clock(minute: int, period: int) -> str:
-    """A minute of the period, as `:07`, or `23:41` where it has several hours."""
+    """A minute of the period, as `:07`, or `23:41` if it has several hours."""
     return f"{minute // 60}:{minute % 60:02d}" if is_of_hours(period) else f":{minute:02d}"
 
 
@@ -94,7 +94,7 @@ def window_text(first: int, length: int, period: int) -> str:
 
 
 def found_text(found: Found) -> str:
-    """What a search found out, in a sentence."""
+    """The result of a search, in a sentence."""
     if isinstance(found, Optimum):
         return f"The best timetable costs {found.cost:,}."
     if isinstance(found, Infeasible):
@@ -105,7 +105,7 @@ def found_text(found: Found) -> str:
 
 
 class Names:
-    """The names of a network's events and activities, for a terminal too."""
+    """The names of a network's events and activities, safe for a terminal."""
 
     def __init__(self, labels: Labels, activities: Mapping[int, Activity]) -> None:
         self.labels, self.activities = labels, activities
@@ -115,12 +115,12 @@ class Names:
         return event_name(self.named(number))
 
     def activity(self, number: int) -> str:
-        """An activity in words, by the events that it leads from and to."""
+        """An activity in words, by the events at its ends."""
         activity = self.activities[number]
         kind = NamedKind(number, shown(self.labels.kind(number)))
         return activity_name(kind, self.named(activity.from_event), self.named(activity.to_event))
 
     def named(self, number: int) -> Named:
-        """An event with its label, for a terminal."""
+        """An event with its label, safe for a terminal."""
         label = self.labels.events.get(number, EventLabel())
         return Named(number, shown(label.line), shown(label.to), shown(label.station), shown(label.kind))

@@ -1,4 +1,4 @@
-"""A network with its working timetable, as accepted commands change them."""
+"""A network with its working timetable, changed by accepted commands."""
 
 from __future__ import annotations
 
@@ -11,32 +11,32 @@ from pespbench.network import Activity, Network, Window, activity_command, windo
 
 @dataclass
 class Work:
-    """What the client knows: the network, and the time of each event that has one, below the period."""
+    """The client's state: the network, and the time of each event that has one, below the period."""
 
     network: Network
     times: Dict[int, int] = field(default_factory=dict)
 
     def script(self) -> List[str]:
-        """The commands that make it from nothing."""
+        """The commands that build it from nothing."""
         return [*self.network.script(), *(f"time {event} {self.times[event]}" for event in sorted(self.times))]
 
     def apply(self, command: str) -> List[str]:
-        """Does what an accepted command did, and gives the commands that take it back, in their order.
+        """Makes an accepted change, and returns the commands that undo it, in their order.
 
-        Raises KeyError where it is none of those that change something.
+        Raises KeyError for a command that changes nothing.
         """
         name, numbers = split(command)
         return _DOERS[name](self, *numbers)
 
     def set_times(self, times: Mapping[int, int]) -> List[str]:
-        """Takes other times for all events that have one, and gives the commands that take it back."""
+        """Replaces the times of all events, and returns the commands that undo it."""
         back = self.change_to(times, self.times)
         self.times = dict(times)
         return back
 
     @staticmethod
     def change_to(old: Mapping[int, int], new: Mapping[int, int]) -> List[str]:
-        """The commands that lead from a working timetable to another one."""
+        """The commands that change one working timetable into another."""
         gone = [f"untime {event}" for event in sorted(old) if event not in new]
         return gone + [f"time {event} {new[event]}" for event in sorted(new) if old.get(event) != new[event]]
 
@@ -112,7 +112,7 @@ _DOERS: Dict[str, Callable[..., List[str]]] = {
 
 
 def work_of(script: List[str], period: int) -> Work:
-    """What the commands of a script make, each of which is accepted. Raises KeyError or ValueError for any other line."""
+    """The network and times of a script, all of whose commands are accepted. Raises KeyError or ValueError for other lines."""
     work = Work(Network(period))
     for line in script:
         work.apply(line)

@@ -1,4 +1,4 @@
-"""Work for many processes: each task is answered once, in its place, though processes die on the way."""
+"""Work for many processes: each task is answered once, in its place, even if processes die."""
 
 from __future__ import annotations
 
@@ -21,12 +21,12 @@ from pespbench.transport import OutOfTime
 
 Task = TypeVar("Task")
 Result = TypeVar("Result")
-# How often a task is given out: once, and once more where what had it in hand died.
+# How often a task is assigned: once, and once more if its worker died.
 TURNS = 2
 
 
 class Lost(PespbenchError):
-    """What had a task in hand died twice. `task` is the place of the task, from 0, and `text` says of what."""
+    """Both workers of a task died. `task` is the place of the task, from 0, and `text` gives the cause."""
 
     def __init__(self, task: int, text: str) -> None:
         super().__init__(task, text)
@@ -38,22 +38,22 @@ class Lost(PespbenchError):
 
 
 class Hands:
-    """Where tasks can be given to: as many places as tasks may be in hand at once."""
+    """Where tasks are assigned: as many places as tasks that may run at once."""
 
     def free(self) -> Optional[Executor]:
-        """A place that is free, which is taken then, or None."""
+        """A free place, which is then in use, or None."""
         raise NotImplementedError
 
     def done(self, place: Executor, is_broken: bool) -> None:
-        """Gives a place back; a broken one takes no more tasks."""
+        """Frees a place; a broken one receives no more tasks."""
         raise NotImplementedError
 
     def close(self) -> None:
-        """Lets go what was started here."""
+        """Ends what was started here."""
 
 
 class OwnHands(Hands):
-    """Processes of this machine. Each is a pool of its own, so one that dies takes nothing with it but what it had in hand."""
+    """Processes of this machine. Each is a pool of its own, so that one that dies loses only its own task."""
 
     def __init__(self, workers: Optional[int]) -> None:
         self._idle: List[Executor] = []
@@ -62,7 +62,7 @@ class OwnHands(Hands):
             self._start()
 
     def _start(self) -> None:
-        # A process that is forked would hold the pipes of this one's programs open.
+        # A forked process would hold the pipes of this one's programs open.
         pool = ProcessPoolExecutor(1, mp_context=multiprocessing.get_context("forkserver"), initializer=begin)
         self._all.append(pool)
         self._idle.append(pool)
@@ -80,14 +80,14 @@ class OwnHands(Hands):
 
     def close(self) -> None:
         for pool in self._all:
-            # One that still searches would be waited for; the module has no call for that before Python 3.14.
+            # Otherwise a worker that still searches would be waited for; the module has no call for that before Python 3.14.
             for process in list((getattr(pool, "_processes", None) or {}).values()):
                 process.terminate()
             pool.shutdown()
 
 
 def begin() -> None:
-    """What a worker begins with: it leaves Ctrl-C to its client, and ends with its programs where that tells it to or ends."""
+    """The start of a worker: it leaves Ctrl-C to its client, and ends with its programs when that requests it or ends."""
     signal.signal(signal.SIGINT, signal.SIG_IGN)
     for number in ending.SIGNALS:
         signal.signal(number, lambda *_: end())
@@ -109,7 +109,7 @@ def end() -> None:
 
 
 class LentHands(Hands):
-    """An executor of the caller, which is given so many tasks at once, and is not shut down."""
+    """The caller's executor, which receives this many tasks at once, and is not shut down."""
 
     def __init__(self, executor: Executor, at_once: int) -> None:
         self._executor = executor
@@ -126,7 +126,7 @@ class LentHands(Hands):
 
 
 class Driver(Generic[Task, Result]):
-    """Gives tasks to hands, and gathers what they answer."""
+    """Assigns tasks, and collects their results."""
 
     def __init__(self, call: Callable[[Task], Result], hands: Hands) -> None:
         self._call = call
@@ -136,10 +136,10 @@ class Driver(Generic[Task, Result]):
         self._again: List[Tuple[int, Task, int]] = []
 
     def run(self, tasks: Iterable[Task], deadline: Optional[float] = None) -> Iterator[Tuple[int, Union[Result, Lost]]]:
-        """Each task's place and result, as they come. The tasks are taken one by one, when there is a hand for them.
+        """Each task's place and result, as they arrive. The tasks are taken one by one, when a place is free.
 
-        What `call` raises is raised, but for Ended, by which a program died, and for what tells that a worker died; and
-        OutOfTime at the deadline, one of `time.monotonic`.
+        What `call` raises is raised, except Ended, which means that a program died, and exceptions of a dead worker;
+        and OutOfTime at the deadline, one of `time.monotonic`.
         """
         coming = ((place, task, 1) for place, task in enumerate(tasks))
         try:
@@ -161,7 +161,7 @@ class Driver(Generic[Task, Result]):
             raise OutOfTime from None
 
     def _give(self, coming: Iterator[Tuple[int, Task, int]]) -> bool:
-        """Gives tasks out while there are hands; whether one was given."""
+        """Assigns tasks while places are free; whether one was assigned."""
         is_given = False
         while True:
             executor = self._hands.free()
@@ -188,7 +188,7 @@ class Driver(Generic[Task, Result]):
         return None
 
     def _take(self, future: "Future[Result]") -> Iterator[Tuple[int, Union[Result, Lost]]]:
-        """Takes what came of a task: its result, or the task again, or that it is lost."""
+        """Records the outcome of a task: its result, or the task to repeat, or that it is lost."""
         place, task, turn, executor = self._running.pop(future)
         died = death_of(future)
         self._hands.done(executor, isinstance(died, BrokenProcessPool))
@@ -201,14 +201,14 @@ class Driver(Generic[Task, Result]):
 
 
 def death_of(future: "Future[Any]") -> Optional[BaseException]:
-    """What tells that a worker or its program died, or None. `KilledWorker` is Dask's."""
+    """The text of an exception that means that a worker or its program died, or None. `KilledWorker` is Dask's."""
     raised = future.exception()
     is_death = isinstance(raised, (Ended, BrokenProcessPool)) or type(raised).__name__ == "KilledWorker"
     return raised if is_death else None
 
 
 class Bar:
-    """A bar on standard error, where that is a terminal."""
+    """A bar on standard error, if that is a terminal."""
 
     WIDTH = 30
 
@@ -224,7 +224,7 @@ class Bar:
         self._show()
 
     def end(self) -> None:
-        """Ends the line, where nothing more is done."""
+        """Ends the line, after the last task."""
         if self._is_shown and self._done < self._total:
             print(file=sys.stderr, flush=True)
 

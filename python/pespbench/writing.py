@@ -1,9 +1,9 @@
 """Files are written whole or not at all, alone or as the set of a folder.
 
-Each text is written beside its place, under a fresh name that no link can stand for, and synced; when all are, they take
-their places one after the other. Where one cannot, those before it are put back. POSIX replaces one file at a time: who
+Each text is written beside its target, under a fresh name that cannot be a link, and synced; when all are, they replace
+their targets one after the other. If one cannot, the earlier ones are restored. POSIX replaces one file at a time: whoever
 kills the process, or reads the folder, in the moment between the first and the last finds some old and some new files, each
-of them whole. What is no regular file (a device, a pipe) is written in place.
+of them whole. What is not a regular file (a device, a pipe) is written directly.
 """
 
 from __future__ import annotations
@@ -17,12 +17,12 @@ from dataclasses import dataclass
 from typing import Iterator, Mapping, Optional, Union
 
 Path = Union[str, "os.PathLike[str]"]
-# Nothing that stands at a fresh name is opened, and a child that is started meanwhile does not get the file.
+# An existing file at a fresh name is never opened, and a child process that starts meanwhile does not inherit the file.
 FRESH = os.O_WRONLY | os.O_CREAT | os.O_EXCL | os.O_NOFOLLOW | os.O_CLOEXEC
 
 
 def write_text(path: Path, text: str) -> None:
-    """Writes a file. A link is written through, as a shell does it, and so not whole or not at all. Raises OSError."""
+    """Writes a file. A link is followed, as by a shell, so its target is not replaced as a whole. Raises OSError."""
     name = os.fspath(path)
     if os.path.islink(name):
         write_in_place(name, text)
@@ -31,9 +31,9 @@ def write_text(path: Path, text: str) -> None:
 
 
 def write_set(folder: Path, texts: Mapping[str, Optional[str]]) -> None:
-    """Writes the files of a folder by their names; those whose text is None are taken away, after all others are there.
+    """Writes the files of a folder by their names; those whose text is None are removed, once all others exist.
 
-    A link in the folder gives way to the file, and what it led to stays as it is. Raises OSError.
+    The file replaces a link in the folder, whose target does not change. Raises OSError.
     """
     places = {name: os.path.join(os.fspath(folder), name) for name in texts}
     write_all({places[name]: text for name, text in texts.items() if text is not None})
@@ -46,7 +46,7 @@ def write_set(folder: Path, texts: Mapping[str, Optional[str]]) -> None:
 
 @dataclass
 class Replacing:
-    """A file that takes the place of another: the name under which it is written, and one by which the other is put back."""
+    """A file that replaces another: the name under which it is written, and one by which the other is restored."""
 
     path: str
     mode: Optional[int]
@@ -54,7 +54,7 @@ class Replacing:
     other: str = ""
 
     def write(self, text: str) -> None:
-        """Writes the text beside the place, to the device, with the permissions of a file that stands there."""
+        """Writes the text beside the target, to the device, with the permissions of an existing file."""
         self.fresh = fresh_name(self.path)
         descriptor = os.open(self.fresh, FRESH, 0o666)
         with os.fdopen(descriptor, "w", encoding="utf-8", newline="") as file:
@@ -65,7 +65,7 @@ class Replacing:
             os.fsync(descriptor)
 
     def take_place(self) -> None:
-        """Takes the place; what stood there has another name then, but on a device without links."""
+        """Replaces the target; an existing file gets another name, except on a device without links."""
         if self.mode is not None:
             self.other = fresh_name(self.path)
             with suppress(OSError):
@@ -73,7 +73,7 @@ class Replacing:
         os.replace(self.fresh, self.path)
 
     def put_back(self) -> None:
-        """The place has again what it had, where it was taken."""
+        """Restores the target, if it was replaced."""
         if not self.fresh or os.path.lexists(self.fresh):
             return
         with suppress(OSError):
@@ -83,7 +83,7 @@ class Replacing:
                 os.replace(self.other, self.path)
 
     def clear(self) -> None:
-        """Nothing stands beside the place."""
+        """Removes the files beside the target."""
         for name in filter(None, [self.fresh, self.other]):
             with suppress(OSError):
                 os.unlink(name)
@@ -116,7 +116,7 @@ def write_all(texts: Mapping[str, str]) -> None:
 
 @contextmanager
 def naming(path: str) -> Iterator[None]:
-    """Within, a fault names the file that is to be written, and not the one beside it. Raises OSError."""
+    """In this context, an error names the file to be written, not its temporary name. Raises OSError."""
     try:
         yield
     except OSError as fault:
@@ -127,7 +127,7 @@ def naming(path: str) -> Iterator[None]:
 
 
 def mode_of(path: str) -> Optional[int]:
-    """What stands at a path, itself where it is a link; None where nothing does. Raises IsADirectoryError for a folder."""
+    """The mode of the file at a path, of a link itself; None if there is none. Raises IsADirectoryError for a folder."""
     try:
         mode = os.lstat(path).st_mode
     except FileNotFoundError:
@@ -138,23 +138,23 @@ def mode_of(path: str) -> Optional[int]:
 
 
 def is_replaced(mode: Optional[int]) -> bool:
-    """Whether what stands there gives way to a new file."""
+    """Whether a new file replaces what exists at a path, by its mode."""
     return mode is None or stat.S_ISREG(mode) or stat.S_ISLNK(mode)
 
 
 def write_in_place(path: str, text: str) -> None:
-    """Writes to what stands at a path."""
+    """Writes to the existing file at a path, such as a device or a pipe."""
     with open(path, "w", encoding="utf-8", newline="") as file:
         file.write(text)
 
 
 def fresh_name(path: str) -> str:
-    """A name beside a path that nobody can know before."""
+    """An unpredictable name beside a path."""
     return os.path.join(os.path.dirname(path), f".pespbench-{secrets.token_hex(8)}")
 
 
 def sync_folder(folder: str) -> None:
-    """Has the device know the names of a folder, where it can."""
+    """Syncs the names of a folder, if its device supports that."""
     with suppress(OSError):
         descriptor = os.open(folder or os.curdir, os.O_RDONLY | os.O_CLOEXEC)
         try:

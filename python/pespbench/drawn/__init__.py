@@ -1,4 +1,4 @@
-"""Regions to try things on, drawn from a seed."""
+"""Random regions for experiments, generated from a seed."""
 
 from pespbench.drawn.command import add_parser
 from pespbench.drawn.drawing import draw_region

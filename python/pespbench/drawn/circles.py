@@ -1,4 +1,4 @@
-"""Circles of a drawn region, and the one span that is moved so that a circle cannot be closed."""
+"""Circles of a generated region, and the one span that is moved so that a circle cannot be closed."""
 
 from __future__ import annotations
 
@@ -10,7 +10,7 @@ from pespbench.drawn.region import Region, RegionActivity
 
 # An activity of a circle, and 1 where the circle runs along it or -1 where it runs against it.
 Step = tuple[RegionActivity, int]
-# The most minutes by which a moved circle misses a whole number of periods, as far as its width leaves room.
+# The greatest distance of a moved circle from a whole number of periods, if its width leaves room.
 MOST_MISSED = 6
 
 
@@ -32,7 +32,7 @@ class Tree:
             self.steps.setdefault(activity.last, []).append((activity.first, (activity, -1)))
 
     def way(self, first: int, last: int) -> list[Step]:
-        """The steps of the one way within the tree."""
+        """The steps of the only path within the tree."""
         ways: dict[int, list[Step]] = {first: []}
         waiting = [first]
         while last not in ways:
@@ -57,7 +57,7 @@ def reach(circle: list[Step]) -> tuple[int, int]:
 
 
 def moved_off(region: Region, numbers: Numbers) -> Region | None:
-    """The region with one span moved so that a circle misses every whole number of periods; None where all are too wide."""
+    """The region with one span moved so that a circle misses every whole number of periods; None if all are too wide."""
     for circle in numbers.shuffled(list(Tree(region.activities).circles())):
         least, most = reach(circle)
         room = region.period - 2 - (most - least)
@@ -66,7 +66,7 @@ def moved_off(region: Region, numbers: Numbers) -> Region | None:
             continue
         missed = 1 + numbers.below(min(MOST_MISSED, room + 1))
         activity, sign = movable[numbers.below(len(movable))]
-        # Longer by so much, the circle begins just above the whole number of periods that it could have taken.
+        # Longer by this, the circle begins just above the whole number of periods that it could have taken.
         move = -(-least // region.period) * region.period + missed - least
         moved = replace(activity, lower=activity.lower + sign * move, upper=activity.upper + sign * move)
         if moved.lower > 0:

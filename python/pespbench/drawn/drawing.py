@@ -1,8 +1,8 @@
-"""Draws the region of a seed.
+"""Generates the region of a seed.
 
-Each activity but one of an infeasible region is met by the hidden timetable, so a feasible region has a timetable by
-the way that it is made. An infeasible one is a feasible one with a single span moved, so that the circle through it no
-longer takes a whole number of periods.
+The hidden timetable meets each activity, except one of an infeasible region; so a feasible region has a timetable by
+construction. An infeasible region is a feasible one with a single span moved, so that the circle through it no longer
+takes a whole number of periods.
 """
 
 from __future__ import annotations
@@ -15,7 +15,7 @@ from pespbench.drawn.numbers import Numbers
 from pespbench.drawn.region import PERIOD, Region, RegionActivity, RegionEvent
 from pespbench.drawn.stations import draw_stations
 
-# The sizes below are those of a region of six lines; one of more or fewer has them in proportion.
+# The sizes below are those of a region of six lines; others are in proportion.
 LINES = 6
 FEWEST_LINES, MOST_LINES = 3, 24
 LEAST_EVENTS, MOST_EVENTS = 100, 120
@@ -25,7 +25,7 @@ HEADWAY = 3
 
 
 class Drawing:
-    """A region while it is drawn: events with their hidden times, and the activities so far."""
+    """A region during its generation: events with their hidden times, and the activities so far."""
 
     def __init__(self, numbers: Numbers, change_widths: tuple[int, int], lines: int) -> None:
         self.numbers, self.change_widths, self.lines = numbers, change_widths, lines
@@ -33,7 +33,7 @@ class Drawing:
         self.activities: list[RegionActivity] = []
 
     def sized(self, count: int) -> int:
-        """What a region of these lines has, where one of six has so many."""
+        """The number for this many lines, in proportion to that of six."""
         return count * self.lines // LINES
 
     def add_event(self, line: str, to: str, station: str, kind: str, time: int) -> RegionEvent:
@@ -72,7 +72,7 @@ class Drawing:
         numbers = self.numbers
         there = self.add_train(line, stations, minutes, numbers.below(PERIOD))
         turn, back_turn = numbers.between(5, 9), numbers.between(5, 9)
-        # What is left of the last period of the round trip is waited at the two ends.
+        # What remains of the last period of the round trip is dwell time at the two ends.
         start = there[-1].time + turn
         back = self.add_train(line, stations[::-1], minutes[::-1], start)
         spare = slack_of(back[-1], there[0], back_turn)
@@ -84,7 +84,7 @@ class Drawing:
         self.add((last, there[0]), back_turn, spare - waited + numbers.between(0, 6), 10, "turnaround")
 
     def join_lines(self, count: int) -> bool:
-        """Headways and changes between lines, so many in all; False where the hidden timetable meets too few."""
+        """Headways and changes between lines, of the given total number; False if the hidden timetable meets too few."""
         headways = self.numbers.shuffled(list(headway_pairs(self)))[: self.sized(MOST_HEADWAYS)]
         changes = self._fitting_changes()
         if len(headways) + len(changes) < count:
@@ -106,7 +106,7 @@ class Drawing:
 
 
 def slack_of(first: RegionEvent, last: RegionEvent, lower: int) -> int:
-    """The slack that the hidden timetable gives an activity."""
+    """The slack of an activity in the hidden timetable."""
     return (last.time - first.time - lower) % PERIOD
 
 
@@ -145,8 +145,8 @@ def headway_pairs(drawing: Drawing) -> Iterator[tuple[RegionEvent, RegionEvent]]
 def draw_region(seed: int, feasible: bool = True, change_widths: tuple[int, int] = (10, 35), lines: int = LINES) -> Region:
     """The region of a seed, of `lines` lines with some 17 events each.
 
-    The span of a change allows from the first to the second of `change_widths` minutes above its lower bound, or as
-    many as the hidden timetable needs, which is no more than the second. Raises ValueError for fewer lines than 3 or more than 24.
+    The span of a change allows from the first to the second of `change_widths` minutes above its lower bound, or as many as the
+    hidden timetable needs, which are never more than the second. Raises ValueError for fewer lines than 3 or more than 24.
     """
     if not FEWEST_LINES <= lines <= MOST_LINES:
         raise ValueError(f"a region has {FEWEST_LINES} to {MOST_LINES} lines")

@@ -1,4 +1,4 @@
-"""Whole numbers that are the same for the same seed, on every machine and every Python."""
+"""Whole numbers that are the same for the same seed, on every machine and in every version of Python."""
 
 from __future__ import annotations
 
@@ -9,7 +9,7 @@ Entry = TypeVar("Entry")
 
 
 class Numbers:
-    """A stream of numbers, all from `Random.random`, which is the one stream that Python keeps."""
+    """A stream of numbers, all from `Random.random`, the only method whose values Python guarantees."""
 
     def __init__(self, seed: int) -> None:
         self._random = random.Random(seed)
@@ -23,7 +23,7 @@ class Numbers:
         return least + self.below(most - least + 1)
 
     def shuffled(self, listed: Sequence[Entry]) -> list[Entry]:
-        """The same entries in a drawn order."""
+        """The same entries in a random order."""
         order = list(listed)
         for last in range(len(order) - 1, 0, -1):
             other = self.below(last + 1)

@@ -1,4 +1,4 @@
-"""What a drawn region is: lines through shared stations, with labels, places and a hidden timetable.
+"""The contents of a generated region: lines through shared stations, with labels, places and a hidden timetable.
 
 A region has six lines over fifteen stations, 100 to 120 events and 30 to 35 circles (as many as activities lie outside a
 spanning tree). Times are minutes.
@@ -49,7 +49,7 @@ class RegionActivity:
 
 @dataclass(frozen=True)
 class Region:
-    """A drawn region; `times` are those of the hidden timetable, which an infeasible region does not keep."""
+    """A generated region; `times` are those of the hidden timetable, which an infeasible region does not meet."""
 
     seed: int
     events: list[RegionEvent]
@@ -68,7 +68,7 @@ class Region:
         return len(self.activities) - len(self.events) + 1
 
     def is_connected(self) -> bool:
-        """Whether each event is reached from each other along activities."""
+        """Whether each event can be reached from each other along activities."""
         parts = {event.number: {event.number} for event in self.events}
         for activity in self.activities:
             first, last = parts[activity.first], parts[activity.last]
@@ -78,10 +78,10 @@ class Region:
         return len(parts[self.events[0].number]) == len(parts)
 
     def save(self, folder: Path) -> None:
-        """Writes the region as a folder that `Bench.load` takes, with the hidden timetable as its times.
+        """Writes the region as a folder that `Bench.load` opens, with the hidden timetable as its times.
 
         Raises:
-            OSError: the folder cannot be made, or a file cannot be written.
+            OSError: the folder cannot be created, or a file cannot be written.
         """
         activities = {
             each.number: Activity(each.number, each.first, each.last, each.lower, each.upper, each.weight) for each in self.activities

@@ -1,4 +1,4 @@
-"""Stations of a drawn region: where they lie, which tracks join them, and which lines run over these."""
+"""Stations of a generated region: their places, the tracks that join them, and the lines on these."""
 
 from __future__ import annotations
 
@@ -12,7 +12,7 @@ from pespbench.drawn.numbers import Numbers
 NAMES = ["Ashford", "Benton", "Cranley", "Dale", "Elmore", "Farley", "Gorsley", "Hatton"]
 NAMES += ["Inworth", "Jarrow", "Kelby", "Linton", "Marden", "Norwood", "Oakham"]
 WIDTH, HEIGHT = 100, 60
-# Of so many drawn places a station takes the one that is farthest from those before it.
+# A station gets the one of this many random places that is farthest from the earlier stations.
 TRIED_PLACES = 12
 LEAST_STOPS, MOST_STOPS = 5, 6
 KILOMETRES_A_MINUTE = 2
@@ -30,11 +30,11 @@ class Stations:
         return math.dist(self.places[first], self.places[last])
 
     def minutes(self, first: str, last: str) -> int:
-        """How long a train takes between two neighbours at least."""
+        """The minimum minutes of a train between two neighbours."""
         return max(4, round(self.distance(first, last) / KILOMETRES_A_MINUTE))
 
     def path(self, first: str, last: str) -> list[str]:
-        """The stations of a shortest way along tracks."""
+        """The stations of a shortest path along tracks."""
         ways: dict[str, tuple[float, list[str]]] = {first: (0.0, [first])}
         waiting = [first]
         while waiting:
@@ -49,7 +49,7 @@ class Stations:
         return ways[last][1]
 
     def draw_lines(self, numbers: Numbers, count: int) -> list[list[str]]:
-        """Different ways of five or six stations, each of which takes in as many stations not yet served as there are."""
+        """Different paths of five or six stations, each with as many stations that no earlier path serves as possible."""
         paths = [self.path(*pair) for pair in combinations(self.places, 2)]
         paths = numbers.shuffled([path for path in paths if LEAST_STOPS <= len(path) <= MOST_STOPS])
         served: set[str] = set()
@@ -77,7 +77,7 @@ def draw_stations(numbers: Numbers) -> Stations:
 
 
 def nearest(place: tuple[int, int], others: Sequence[tuple[int, int]]) -> float:
-    """The distance to the nearest of the others; 0 where there are none."""
+    """The distance to the nearest of the others; 0 if there are none."""
     return min((math.dist(place, other) for other in others), default=0.0)
 
 

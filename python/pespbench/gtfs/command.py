@@ -44,7 +44,7 @@ def day_of(text: str) -> date:
 
 
 def run(words: argparse.Namespace) -> int:
-    """Writes the folder, and tells how many trains it has and how many trips do not come again; the status is 1 where none does."""
+    """Writes the folder, and prints how many trains it has and how many trips do not repeat; the status is 1 if none does."""
     drawn = drawn_of(read_feed(words.feed, words.day), words.period, words.start, words.more)
     write(f"{drawn.trains} trains come each {words.period} minutes; {drawn.left_out} trips do not, and are left out\n", sys.stderr)
     if not drawn.trains:

@@ -14,12 +14,12 @@ from pespbench.places import Place
 
 DAYS = ("monday", "tuesday", "wednesday", "thursday", "friday", "saturday", "sunday")
 ADDED, REMOVED = "1", "2"
-# Decimals of a degree that is kept: a decimetre.
+# The decimals of a degree that are kept: a decimetre.
 DECIMALS = 6
 
 
 class Call(NamedTuple):
-    """When a trip comes to a station and leaves it, in minutes since midnight."""
+    """When a trip arrives at a station and leaves it, in minutes since midnight."""
 
     station: str
     arrival: int
@@ -34,13 +34,14 @@ class Trip(NamedTuple):
     calls: Tuple[Call, ...]
 
     def later(self, minutes: int) -> Trip:
-        """The same so many minutes later."""
+        """The same trip, this many minutes later."""
         return self._replace(calls=tuple(Call(each.station, each.arrival + minutes, each.departure + minutes) for each in self.calls))
 
 
 @dataclass(frozen=True)
 class Feed:
-    """When trips leave, by what they are at 0; the names of lines and stations, and the places of these, by what the feed calls them."""
+    """For each trip, shifted to start at minute 0, when it leaves; and names of lines and stations, and places of stations, by the
+    feed's identifiers."""
 
     patterns: Dict[Trip, Set[int]]
     lines: Dict[str, str]
@@ -49,13 +50,13 @@ class Feed:
 
 
 def read_feed(path: Path, day: Optional[date] = None) -> Feed:
-    """Reads a folder or an archive; trips of a day, or of all days where none is given. Raises OSError and FileFault."""
+    """Reads a folder or an archive: the trips of a day, or of all days by default. Raises OSError and FileFault."""
     with Tables(path) as tables:
         return feed_of(tables, day)
 
 
 def feed_of(tables: Tables, day: Optional[date]) -> Feed:
-    """What the tables of a feed say."""
+    """The contents of the tables of a feed."""
     parents, stations, places = stops_of(tables)
     names = {row.text("route_id"): row for row in tables.rows("routes", ["route_id"])}
     lines = {route: row.text("route_short_name") or row.text("route_long_name") or route for route, row in names.items()}
@@ -71,7 +72,7 @@ def feed_of(tables: Tables, day: Optional[date]) -> Feed:
 
 
 def stops_of(tables: Tables) -> Tuple[Dict[str, str], Dict[str, str], Dict[str, Place]]:
-    """The station of each stop, names of stations, none of which two have, and their places, x to the east in degrees of latitude."""
+    """The station of each stop, names of stations, all different, and their places, x to the east in degrees of latitude."""
     rows = {row.text("stop_id"): row for row in tables.rows("stops", ["stop_id", "stop_name"])}
     parents = {stop: row.text("parent_station") if row.text("parent_station") in rows else stop for stop, row in rows.items()}
     own = {station: rows[station].text("stop_name") or station for station in set(parents.values())}
@@ -84,7 +85,7 @@ def stops_of(tables: Tables) -> Tuple[Dict[str, str], Dict[str, str], Dict[str, 
 
 
 def degree(row: Row, title: str) -> float:
-    """A longitude or latitude, or no number where there is none."""
+    """A longitude or latitude, or not a number if it is missing."""
     try:
         return float(row.text(title) or math.nan)
     except ValueError:
@@ -130,7 +131,7 @@ def is_ordered(calls: Sequence[Call]) -> bool:
 
 
 def patterns_of(tables: Tables, trips: Mapping[str, Trip]) -> Dict[Trip, Set[int]]:
-    """When trips that are alike leave, those of frequencies at each of their times in place of once. Raises FileFault."""
+    """The times at which trips of the same pattern leave; those of frequencies replace the single time. Raises FileFault."""
     often: Dict[str, Set[int]] = {}
     for row in tables.rows("frequencies", ["trip_id", "start_time", "end_time", "headway_secs"], is_needed=False):
         start, end, headway = row.minutes("start_time"), row.minutes("end_time"), row.whole("headway_secs")

@@ -12,13 +12,13 @@ from pespbench.labels import EventLabel, Labels
 from pespbench.network import Activity, Network
 from pespbench.places import Place
 
-# A minute of a train is worth as much as any other: passengers are not known.
+# Each minute of a train has the same weight: passengers are unknown.
 WEIGHT = 1
 
 
 @dataclass
 class Drawn:
-    """A network with its timetable; `left_out` trips of those that leave in the period do not come again."""
+    """A network with its timetable; `left_out` trips that leave in the period do not repeat."""
 
     network: Network
     times: Dict[int, int] = field(default_factory=dict)
@@ -28,12 +28,13 @@ class Drawn:
     left_out: int = 0
 
     def save(self, folder: Path) -> None:
-        """Writes a folder that `Bench.load` takes. Raises OSError."""
+        """Writes a folder that `Bench.load` opens. Raises OSError."""
         write_folder(folder, self.network, self.times, self.labels, self.places)
 
 
 def drawn_of(feed: Feed, period: int, start: int, more: int) -> Drawn:
-    """The trips that leave in the period from `start` on, in minutes since midnight; runs and dwells may take `more` minutes more."""
+    """The trips that leave in the period from `start` on, in minutes since midnight; runs and dwells may take `more` additional
+    minutes."""
     drawn = Drawn(Network(period))
     stations: Set[str] = set()
     for pattern, starts in sorted(feed.patterns.items(), key=lambda each: (feed.lines.get(each[0].route, ""), each[0])):
@@ -66,6 +67,6 @@ def add_train(drawn: Drawn, feed: Feed, trip: Trip, more: int) -> None:
 
 
 def add_activity(drawn: Drawn, first: Tuple[int, int], last: Tuple[int, int], more: int) -> None:
-    """Adds what lies between two events of a train."""
+    """Adds the activity between two events of a train."""
     number, takes = len(drawn.network.activities) + 1, last[1] - first[1]
     drawn.network.activities[number] = Activity(number, first[0], last[0], takes, takes + more, WEIGHT)

@@ -27,15 +27,15 @@ class Row:
     values: Mapping[str, Optional[str]]
 
     def fault(self, text: str) -> FileFault:
-        """What is wrong with it."""
+        """The fault of a row."""
         return FileFault(self.path, self.number, text)
 
     def text(self, title: str) -> str:
-        """A value, or an empty text where there is none."""
+        """A value, or an empty text if it is missing."""
         return (self.values.get(title) or "").strip()
 
     def minutes(self, title: str) -> Optional[int]:
-        """The whole minutes since midnight of a time, or None where there is none. Raises FileFault."""
+        """The whole minutes since midnight of a time, or None if it is missing. Raises FileFault."""
         text = self.text(title)
         found = TIME.fullmatch(text)
         if text and not found:
@@ -54,7 +54,7 @@ class Tables:
     """The tables of a feed."""
 
     def __init__(self, path: Path) -> None:
-        """Takes a folder, or an archive. Raises OSError and FileFault."""
+        """Opens a folder, or an archive. Raises OSError and FileFault."""
         self._path = path
         try:
             self._archive = None if path.is_dir() else zipfile.ZipFile(path)
@@ -69,7 +69,7 @@ class Tables:
             self._archive.close()
 
     def rows(self, name: str, titles: Sequence[str], is_needed: bool = True) -> Iterator[Row]:
-        """The rows of a table; none where it is not there and not needed. Raises OSError, and FileFault for a missing title."""
+        """The rows of a table; none if an optional one is missing. Raises OSError, and FileFault for a missing title."""
         data, path = self._content(f"{name}.txt"), os.path.join(self._path, f"{name}.txt")
         if data is None:
             if is_needed:
@@ -86,7 +86,7 @@ class Tables:
             raise FileFault(path, max(1, reader.line_num), UNCUT) from None
 
     def _content(self, name: str) -> Optional[bytes]:
-        """The bytes of a file of the feed, or None where there is none."""
+        """The bytes of a file of the feed, or None if it is missing."""
         if self._archive is None:
             path = own_file(self._path, name)
             return None if path is None else content(path)

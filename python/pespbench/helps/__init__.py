@@ -1,4 +1,4 @@
-"""What would help: the best timetable with a minute more at each activity, and what it saves."""
+"""What would help: the best timetable with one more minute at each activity, and what it saves."""
 
 from pespbench.helps.answers import Gain, Helps
 from pespbench.helps.asking import helps

@@ -1,4 +1,4 @@
-"""Finds out what would help: each span of some kinds, a little wider, is a variant."""
+"""Computes what would help: each span of some kinds, slightly wider, is a variant."""
 
 from __future__ import annotations
 
@@ -20,7 +20,7 @@ from pespbench.workers import Driver
 
 # The share of the time that the search of the unchanged network may use; the rest is for the questions.
 FIRST_PART = 1 / 3
-# What is called with what is known.
+# A callback that receives the results so far.
 Watcher = Callable[[Helps], object]
 
 
@@ -43,7 +43,7 @@ def helps(
     `variants`.
 
     Activities without an answer within `seconds` are left out; the search of the unchanged network uses a third of them at most.
-    `watch` is called with the results before the first search and after each: so it has them at Ctrl-C, too, which raises
+    `watch` is called with the results before the first search and after each, so that it has them also at Ctrl-C, which raises
     KeyboardInterrupt. The bench does not change. Raises WrongWords for an unknown kind; ValueError for no minutes, no nodes, no
     workers, and seconds outside 0 to 1,000,000; and BadReply.
     """
@@ -64,7 +64,7 @@ def helps(
 
 
 def best_within(bench: Bench, nodes: int, until: float) -> Found:
-    """What a search of so many nodes comes to until a time, or the working timetable where that is cheaper."""
+    """The result of a search with this many nodes until a time, or the working timetable if that is cheaper."""
     standing = bench.standing()
     try:
         found = found_by(bench._session.answer(f"try {nodes}", until))
@@ -74,6 +74,6 @@ def best_within(bench: Bench, nodes: int, until: float) -> Found:
 
 
 def tell(watch: Optional[Watcher], answer: Helps) -> None:
-    """Tells what is known to who wants to be told."""
+    """Passes the results so far to the callback, if there is one."""
     if watch is not None:
         watch(answer)

@@ -42,7 +42,7 @@ def some_minutes(text: str) -> int:
 
 
 class Latest:
-    """What is known, with a bar that shows how far it is."""
+    """The results so far, with a progress bar."""
 
     def __init__(self) -> None:
         self.answer: Optional[Helps] = None
@@ -56,14 +56,14 @@ class Latest:
             self._bar.step()
 
     def end(self) -> None:
-        """Nothing more is asked."""
+        """No more questions follow."""
         if self._bar is not None:
             self._bar.end()
 
 
 def run(words: argparse.Namespace) -> int:
-    """Tells what would help, on standard output. Raises what ended it before its time, once what is known is told; an
-    interrupt is told by the status.
+    """Prints what would help. Raises what ended it early, after printing the results so far; for an interrupt the
+    status reports it.
     """
     latest = Latest()
     with open_network(words) as bench:
@@ -79,7 +79,7 @@ def run(words: argparse.Namespace) -> int:
 
 
 def asked(bench: Bench, words: argparse.Namespace, latest: Latest) -> Optional[BaseException]:
-    """Asks, and gives what has ended that before its time."""
+    """Computes the answer, and returns what ended it early."""
     kinds = None if words.kinds is None else [kind for kind in map(str.strip, words.kinds.split(",")) if kind]
     try:
         helps(bench, kinds, minutes=words.minutes, seconds=words.seconds, workers=words.workers, watch=latest)

@@ -1,4 +1,4 @@
-"""Which spans are asked about, and what they are then."""
+"""Which spans are widened, and to what."""
 
 from __future__ import annotations
 
@@ -20,7 +20,7 @@ NO_KIND = "activity"
 
 @dataclass(frozen=True)
 class Question:
-    """An activity with another span, and what its least minutes cost that this takes off."""
+    """An activity with another span, and the cost of the least minutes that this removes."""
 
     activity: int
     lower: int
@@ -29,7 +29,7 @@ class Question:
 
     @classmethod
     def of(cls, activity: Activity, minutes: int, period: int) -> "Question":
-        """The span wider by so many minutes, but none that rules nothing out any more and is wider still."""
+        """The span wider by this many minutes, or the narrowest one that already excludes nothing, if that is less wide."""
         lower, upper = activity.lower, activity.upper
         count = min(abs(minutes), period - 1 - (upper - lower))
         if minutes > 0:
@@ -38,22 +38,23 @@ class Question:
 
     @property
     def edit(self) -> str:
-        """The command that gives it."""
+        """The command that sets it."""
         return f"span {self.activity} {self.lower} {self.upper}"
 
     def is_legal(self) -> bool:
-        """Whether the program takes such a span."""
+        """Whether the program accepts such a span."""
         return -GREATEST_BOUND <= self.lower and self.upper <= GREATEST_BOUND
 
     def gain(self, before: Found, found: Found) -> Gain:
-        """What comes of it, beside the best as it is."""
+        """The result with it, compared with the best of the unchanged network."""
         old, new = before.cost, found.cost
         saves = None if old is None or new is None else old - (new - self.paid)
         return Gain(self.activity, self.lower, self.upper, found, saves)
 
 
 def questions(bench: Bench, kinds: Optional[Collection[str]], minutes: int) -> List[Question]:
-    """One for each activity of some kinds that rules something out, those first that cost most in the working timetable.
+    """One for each activity of some kinds that excludes something; those with the greatest cost in the working timetable come
+    first.
 
     Raises WrongWords for an unknown kind.
     """
@@ -74,9 +75,9 @@ def kind_of(bench: Bench, activity: int) -> str:
 
 
 def chosen_kinds(bench: Bench, kinds: Optional[Collection[str]]) -> Set[str]:
-    """The kinds that are asked about: all where none is named, but those that are usually kept, where there are others.
+    """The kinds in question: by default all except those that are usually kept, if there are others.
 
-    Raises WrongWords for one that no activity has.
+    Raises WrongWords for a kind that no activity has.
     """
     known = {kind_of(bench, number) for number in bench.network.activities}
     if kinds is None:

@@ -21,7 +21,7 @@ def text_of(answer: Helps, names: Names) -> str:
 
 
 def table_of(answer: Helps, names: Names) -> Table:
-    """All that was asked, the most useful first, for other programs."""
+    """All answers, the most useful first, for other programs."""
     rest = [each for each in answer.answers if each not in answer.gains]
     rows = [
         [each.activity, names.activity(each.activity), each.lower, each.upper, word_of(each.found), each.found.cost, each.saves]
@@ -32,7 +32,7 @@ def table_of(answer: Helps, names: Names) -> Table:
 
 
 def before_text(before: Found) -> str:
-    """What is best as it is."""
+    """The best result of the unchanged network."""
     if isinstance(before, Infeasible):
         return "As it is, no timetable meets everything."
     if isinstance(before, Optimum):
@@ -43,20 +43,20 @@ def before_text(before: Found) -> str:
 
 
 def asked_text(answer: Helps) -> str:
-    """How many were asked, and what, and how many were not."""
+    """How many activities were tried, with what change, and how many were not."""
     change = f"{minutes(answer.minutes)} more" if answer.minutes > 0 else f"its least lowered by {minutes(-answer.minutes)}"
     left = answer.asked - len(answer.answers)
     return f"{len(answer.answers):,} of {answer.asked:,} activities were asked about, each with {change}{f'; {left:,} not asked' if left else ''}."
 
 
 def gain_text(gain: Gain) -> str:
-    """What is saved, or what the timetable costs that there is then."""
+    """What is saved, or the cost of the timetable that becomes possible."""
     more = "" if gain.is_sure else " or more" if gain.saves is not None else " or less"
     told = f"costs {gain.found.cost:,}" if gain.saves is None else f"{gain.saves:,}"
     return f"{told}{more}"
 
 
 def change_text(gain: Gain, names: Names) -> str:
-    """The span then, and what it is now."""
+    """The new span, and the present one."""
     now = names.activities[gain.activity]
     return f"{span_text(gain.lower, gain.upper)} minutes in place of {span_text(now.lower, now.upper)}"

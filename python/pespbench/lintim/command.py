@@ -36,7 +36,7 @@ def add_parser(subparsers: argparse._SubParsersAction[argparse.ArgumentParser]) 
 
 
 def run(words: argparse.Namespace) -> int:
-    """Writes the folder, and tells how weights were scaled where they were, and where there were no passengers."""
+    """Writes the folder, and prints how weights were scaled, if they were, and whether passengers were missing."""
     is_folder = words.lintim.is_dir()
     files = files_in(words.lintim) if is_folder else LinTimFiles(words.lintim)
     read = read_lintim(files.activities, words.timetable or files.timetable, words.events or files.events, words.stops or files.stops)
@@ -53,7 +53,7 @@ def run(words: argparse.Namespace) -> int:
 
 
 def run_back(words: argparse.Namespace) -> int:
-    """Writes the files, and tells of windows, which have no place in them."""
+    """Writes the files, and reports windows, which they cannot contain."""
     if not words.network.is_dir():
         write_timetable(words.lintim, read_times(words.network))
         return 0

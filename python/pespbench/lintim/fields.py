@@ -14,11 +14,11 @@ from pespbench.faults import FileFault
 from pespbench.records import UNCUT, content
 
 MOST_DIGITS = 9
-# Columns are named in one of the first lines, among so many.
+# Columns are named in one of the first lines, of which this many are read.
 FIRST_LINES, MOST_COLUMNS = 20, 30
-# Numbers are taken as they stand: one that is too long, too great or too near 0 for that is refused.
+# Numbers are not rounded: one that is too long, too great or too near 0 for that is refused.
 EXACT = Context(prec=60, Emax=30, Emin=-30, traps=[InvalidOperation, Inexact, Overflow])
-# What the columns of activities and events are called, in lower case with `_` between words; the last may be missing.
+# The names of the columns of activities and events, in lower case with `_` between words; the last may be missing.
 ACTIVITY = {
     "activity": "(activity_)?(index|id)|activity", "type": "(activity_)?type", "from": "from(_.*)?", "to": "to(_.*)?",
     "lower": "lower(_.*)?", "upper": "upper(_.*)?", "passengers": "passengers|weight",
@@ -35,11 +35,11 @@ class Line:
     fields: Sequence[str]
 
     def fault(self, text: str) -> FileFault:
-        """What is wrong with it."""
+        """The fault of a row."""
         return FileFault(str(self.path), self.number, text)
 
     def whole(self, text: str, limits: range) -> int:
-        """A number of it without a fraction, with or without a point. Raises FileFault for any other text."""
+        """A number of the row without a fraction, with or without a point. Raises FileFault for any other text."""
         if text.isascii() and text.isdigit() and len(text) <= MOST_DIGITS:
             found = int(text)
         else:
@@ -50,7 +50,7 @@ class Line:
         return found
 
     def decimal(self, text: str) -> Decimal:
-        """A number of it that may have a point. Raises FileFault for a text that is none, and for one out of range."""
+        """A number of the row that may have a point. Raises FileFault for any other text, and for a number out of range."""
         try:
             value = EXACT.create_decimal(text)
         except InvalidOperation:
@@ -63,16 +63,16 @@ class Line:
 
 
 def shortened(text: str) -> str:
-    """A field as a fault tells it."""
+    """A field in the text of a fault."""
     return repr(text if len(text) <= 40 else f"{text[:40]}..")
 
 
 def lines_of(path: Path, least: int, titles: Optional[Mapping[str, str]] = None) -> Iterator[Line]:
-    """The rows of a file. Where a comment above them names all of some columns, by patterns, these stand first, in that order.
+    """The rows of a file. If a comment above them names all of some columns, by patterns, these come first, in that order.
 
     Raises:
         OSError: the file cannot be read.
-        FileFault: it is too long, or no text, or a row has fewer fields than the least.
+        FileFault: it is too long, or not text, or a row has too few fields.
     """
     text = io.TextIOWrapper(io.BytesIO(content(path)), "utf-8", newline="")
     reader = csv.reader(text, delimiter=";", skipinitialspace=True)
@@ -97,7 +97,7 @@ def lines_of(path: Path, least: int, titles: Optional[Mapping[str, str]] = None)
 
 
 def order_of(comment: Sequence[str], titles: Mapping[str, str]) -> List[int]:
-    """Where the columns stand that a comment names, or nothing where it does not name all but the last."""
+    """The places of the columns that a comment names, or nothing unless it names all but the last."""
     words = [re.sub("[ -]", "_", field.strip("# ").lower()) for field in comment]
     found = [next((place for place, word in enumerate(words) if re.fullmatch(title, word)), None) for title in titles.values()]
     return [] if None in found[:-1] else [place for place in found if place is not None]

@@ -1,4 +1,4 @@
-"""Where a folder of LinTim, or of TimPassLib, has its files, and the period of its configuration."""
+"""The files of a folder of LinTim, or of TimPassLib, and the period of its configuration."""
 
 from __future__ import annotations
 
@@ -11,7 +11,7 @@ from pespbench.folders import own_file
 from pespbench.lintim.fields import Line, lines_of
 
 LEAST_PERIOD, MOST_PERIOD = 2, 1_440
-# What the files are called, in this order, below the folder or beside each other in it.
+# The names of the files, in this order, below the folder or beside each other in it.
 NAMES = {
     "config": ("basis/Config.cnf", "Config.cnf", "Config.csv"),
     "activities": ("timetabling/Activities-periodic.giv", "Activities-periodic.giv", "Activities.giv", "Activities.csv"),
@@ -20,13 +20,13 @@ NAMES = {
     "stops": ("basis/Stop.giv", "basis/Stops.giv", "Stop.giv", "Stops.giv", "Stop.csv", "Stops.csv"),
 }
 INCLUDES = ("include", "include_if_exists")
-# Of a configuration that includes itself.
+# The depth at which a configuration that includes itself is given up.
 MOST_INCLUDED = 20
 
 
 @dataclass(frozen=True)
 class LinTimFiles:
-    """The files of a folder; of each but the activities there may be none."""
+    """The files of a folder; each but the activities may be missing."""
 
     activities: Path
     timetable: Path | None = None
@@ -36,7 +36,7 @@ class LinTimFiles:
 
 
 def files_in(folder: Path) -> LinTimFiles:
-    """The files of a folder. Raises FileFault where it has no activities, and for links out of it."""
+    """The files of a folder. Raises FileFault if it has no activities, and for links out of it."""
     found = {name: next(filter(None, (own_file(folder, place) for place in places)), None) for name, places in NAMES.items()}
     activities = found.pop("activities")
     if activities is None:
@@ -45,7 +45,7 @@ def files_in(folder: Path) -> LinTimFiles:
 
 
 def period_in(config: Path, folder: Path) -> int | None:
-    """The period that a configuration tells, or one in the folder that it includes; None where none does.
+    """The period of a configuration, or of one in the folder that it includes; None if it has none.
 
     Files outside the folder are not read. Raises OSError, and FileFault for a period out of range.
     """
@@ -54,7 +54,7 @@ def period_in(config: Path, folder: Path) -> int | None:
 
 
 def settings(config: Path, folder: Path, passed: list[Path]) -> Iterator[Line]:
-    """The rows that tell the period, in the order in which LinTim takes them: the last one holds."""
+    """The rows with the period, in LinTim's order: the last one counts."""
     passed.append(config)
     for line in lines_of(config, 2):
         key, value = line.fields[:2]
@@ -66,6 +66,6 @@ def settings(config: Path, folder: Path, passed: list[Path]) -> Iterator[Line]:
 
 
 def within(path: Path, folder: Path) -> Path | None:
-    """A file that is there and in the folder, or None."""
+    """A file that exists and is in the folder, or None."""
     place = path.resolve()
     return place if folder.resolve() in place.parents and place.is_file() else None

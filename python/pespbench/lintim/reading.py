@@ -14,7 +14,7 @@ from pespbench.lintim.fields import ACTIVITY, EVENT, EXACT, MOST_DIGITS, lines_o
 from pespbench.network import Activity
 from pespbench.places import Place
 
-# LinTim's types of activities by the kinds that are used here; others keep their own word.
+# The kinds used here for LinTim's types of activities; others keep their names.
 KINDS = {"drive": "run", "wait": "dwell", "turn": "turnaround"}
 TRAIN_TYPES = ("drive", "wait")
 GREATEST_WEIGHT = 1_000_000_000
@@ -23,7 +23,7 @@ NO_PASSENGERS = Decimal(0)
 
 @dataclass
 class LinTim:
-    """What was read: activities by number, their types, times of events by number, labels, places of stations.
+    """The contents: activities by number, their types, times of events by number, labels, places of stations.
 
     Weights are `scale` times the passengers; a cost is then `scale` times LinTim's.
     """
@@ -41,7 +41,7 @@ def read_lintim(activities: Path, timetable: Path | None = None, events: Path | 
 
     Raises:
         OSError: a file cannot be read.
-        FileFault: a row has too few fields or a field that is no number as it is wanted, or an activity comes twice.
+        FileFault: a row has too few fields or an invalid number, or an activity is repeated.
     """
     rows, passengers, types = [], [], {}
     for line in lines_of(activities, 6, ACTIVITY):
@@ -72,7 +72,8 @@ def read_timetable(path: Path) -> dict[int, int]:
 
 
 def weights_of(path: Path, passengers: Sequence[Decimal]) -> tuple[int, list[int]]:
-    """The least power of ten that makes all whole, and all of them times it. Raises FileFault for one that is no weight then."""
+    """The least power of ten that makes all numbers whole, and all multiplied by it. Raises FileFault for one that is not a weight
+    then."""
     digits = max((-int(each.normalize(EXACT).as_tuple().exponent) for each in passengers), default=0)
     scale = 10 ** max(0, min(digits, MOST_DIGITS))
     weights = [EXACT.multiply(each, scale) if 0 <= each <= GREATEST_WEIGHT else Decimal(-1) for each in passengers]
@@ -83,7 +84,7 @@ def weights_of(path: Path, passengers: Sequence[Decimal]) -> tuple[int, list[int
 
 
 def read_stops(path: Path, read: LinTim) -> dict[str, str]:
-    """Takes the places of stations, and gives their names by number."""
+    """Reads the places of stations, and returns their names by number."""
     names: dict[str, str] = {}
     for line in lines_of(path, 5):
         number, short, name, x, y = line.fields[:5]
@@ -93,7 +94,7 @@ def read_stops(path: Path, read: LinTim) -> dict[str, str]:
 
 
 def read_events(path: Path, names: dict[str, str], read: LinTim) -> None:
-    """Takes labels of events: a train goes to the station of its last event."""
+    """Adds labels of events: a train goes to the station of its last event."""
     stations, lines, kinds = {}, {}, {}
     for row in lines_of(path, 4, EVENT):
         event, stop = row.whole(row.fields[0], NUMBERS), row.fields[2]
@@ -109,7 +110,7 @@ def read_events(path: Path, names: dict[str, str], read: LinTim) -> None:
 def last_events(read: LinTim) -> dict[int, int]:
     """The last event of the train of each event that a train's activity names.
 
-    A train that runs in a circle ends before it comes to where it was.
+    The path of a train that runs in a circle ends before it reaches an event again.
     """
     following = {}
     for name, activity in read.activities.items():

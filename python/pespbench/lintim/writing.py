@@ -1,4 +1,4 @@
-"""LinTim's files of a network and its timetable, and folders of pespbench of what was read."""
+"""Writes a network and its timetable as LinTim's files, and data read from LinTim as folders of pespbench."""
 
 from __future__ import annotations
 
@@ -23,7 +23,7 @@ def write_timetable(path: Path, times: Mapping[int, int]) -> None:
 
 
 def timetable_text(times: Mapping[int, int]) -> str:
-    """The file of a timetable."""
+    """The text of the file of a timetable."""
     return rows_text("event_index; time", sorted(times.items()))
 
 
@@ -33,10 +33,10 @@ def rows_text(titles: str, rows: Iterable[Sequence[object]]) -> str:
 
 
 def save_lintim(read: LinTim, folder: Path, period: int) -> None:
-    """Writes what was read as a folder that `Bench.load` takes, with a file of places where stops were read.
+    """Writes data read from LinTim as a folder that `Bench.load` opens, with a file of places if there are stops.
 
     Raises:
-        OSError: the folder cannot be made, or a file cannot be written.
+        OSError: the folder cannot be created, or a file cannot be written.
     """
     times = {event: time % period for event, time in read.times.items()}
     write_folder(folder, network_of(read, period), times, read.labels, read.places)
@@ -49,7 +49,7 @@ def network_of(read: LinTim, period: int) -> Network:
 
 
 def write_lintim(folder: Path, network: Network, times: Mapping[int, int], labels: Labels, places: Mapping[str, Place]) -> None:
-    """Writes LinTim's files, whole or not at all; windows have no place in them. Raises OSError."""
+    """Writes LinTim's files, whole or not at all; they cannot contain windows. Raises OSError."""
     for name in ("basis", "timetabling"):
         (folder / name).mkdir(parents=True, exist_ok=True)
     stations = {station: number for number, station in enumerate(sorted({*places, *(each.station for each in labels.events.values())}), 1)}
@@ -73,7 +73,7 @@ def activities_text(network: Network, labels: Labels) -> str:
 
 
 def events_text(network: Network, labels: Labels, stations: Mapping[str, int]) -> str:
-    """The file of events. Lines have numbers there, and the two ways of a line a sign."""
+    """The file of events. Lines are numbers there, and the two directions of a line signs."""
     lines = numbers_of({each.line for each in labels.events.values()})
     ends: dict[str, list[str]] = {}
     rows = []
@@ -88,7 +88,7 @@ def events_text(network: Network, labels: Labels, stations: Mapping[str, int]) -
 
 
 def numbers_of(lines: Iterable[str]) -> dict[str, int]:
-    """A number for each line: its own, as in L7, where all have one, and else its place."""
+    """A number for each line: its own, as in L7, if all have one, and otherwise its place."""
     listed = sorted(lines)
     own = {line: int(found[1]) for line in listed if (found := re.fullmatch("L([0-9]{1,9})", line))}
     if len(own) == len(listed) == len(set(own.values())):
@@ -97,7 +97,7 @@ def numbers_of(lines: Iterable[str]) -> dict[str, int]:
 
 
 def stops_text(stations: Mapping[str, int], places: Mapping[str, Place]) -> str:
-    """The file of stations; those without a place lie at 0."""
+    """The file of stations; those without a place are at 0."""
     rows = [(number, quoted(name), quoted(name), *map(plain, places.get(name, (0.0, 0.0)))) for name, number in stations.items()]
     return rows_text("stop_id; short_name; long_name; x_coordinate; y_coordinate", rows)
 

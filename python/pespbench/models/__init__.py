@@ -1,4 +1,4 @@
-"""A network as an integer program, for other solvers: its files, and timetables from their solutions.
+"""A network as an integer program, for other solvers: its files, and the timetables of their solutions.
 
 | Formulation | Columns |
 |---|---|

@@ -1,4 +1,4 @@
-"""A network as arcs, and a basis of its cycles: narrow ones, round which times can add up to few numbers of periods."""
+"""A network as arcs, and a basis of narrow cycles, whose times can sum to few numbers of periods."""
 
 from __future__ import annotations
 
@@ -7,13 +7,13 @@ from typing import Dict, Iterable, List, Mapping, NamedTuple, Sequence, Set, Tup
 
 from pespbench.network import Activity, Network
 
-# Where times are counted from; all other nodes are events.
+# The origin of all times; all other nodes are events.
 ORIGIN = -1
 # The arcs of a cycle by their places, each with its sign: 1 along the cycle, -1 against it.
 Cycle = Dict[int, int]
 # For each node its arcs: the place, the sign, the node at the other end.
 Near = Dict[int, List[Tuple[int, int, int]]]
-# Of so many nodes times arcs, and so many arcs beyond nodes, narrow cycles are looked for, in half a minute at most.
+# The limits of the search for narrow cycles, nodes times arcs and arcs beyond nodes: it takes half a minute at most.
 MOST_WAYS, MOST_CYCLES = 1_000_000, 500
 
 
@@ -34,13 +34,13 @@ def width_of(activity: Activity, period: int) -> int:
 
 
 def asking(network: Network) -> List[Activity]:
-    """The activities, ascending, but for those that admit every residue at no cost."""
+    """The activities, ascending, except those that admit every residue at no cost."""
     listed = [network.activities[number] for number in sorted(network.activities)]
     return [each for each in listed if width_of(each, network.period) < network.period - 1 or each.weight > 0]
 
 
 def arcs_of(network: Network) -> List[Arc]:
-    """All arcs that ask for something."""
+    """All arcs that exclude something."""
     period = network.period
     arcs = [Arc(f"y{each.number}", each.from_event, each.to_event, each.lower, width_of(each, period), each.weight) for each in asking(network)]
     windows = [(event, network.windows[event]) for event in network.events]
@@ -58,7 +58,7 @@ def arcs_by_node(arcs: Sequence[Arc]) -> Near:
 
 
 def least_ways(arcs: Sequence[Arc], near: Near, start: int) -> Dict[int, Cycle]:
-    """The way from a node to each that it reaches, of least width, and of those alike with fewest arcs."""
+    """The path from a node to each that it reaches, of least width, and of equal ones with fewest arcs."""
     ways: Dict[int, Cycle] = {}
     waiting: List[Tuple[int, int, int, int, int, int, int]] = [(0, 0, 0, start, 0, 0, start)]
     order = 0
@@ -75,7 +75,8 @@ def least_ways(arcs: Sequence[Arc], near: Near, start: int) -> Dict[int, Cycle]:
 
 
 def cycles_over(arcs: Sequence[Arc], ways: Mapping[int, Cycle]) -> List[Cycle]:
-    """For each arc between nodes with ways the cycle over it and both ways, whose common part falls away; none for an arc of the ways."""
+    """For each arc between nodes with paths, the cycle over it and both paths, without their common part; none for an arc of the
+    paths."""
     found = []
     for place, arc in enumerate(arcs):
         if arc.first in ways:
@@ -88,7 +89,7 @@ def cycles_over(arcs: Sequence[Arc], ways: Mapping[int, Cycle]) -> List[Cycle]:
 
 
 def independent(cycles: Iterable[Cycle]) -> List[Cycle]:
-    """Those that are no sum over two of some before them."""
+    """Those that are not a sum, modulo two, of earlier ones."""
     kept: List[Cycle] = []
     reduced: Dict[int, int] = {}
     for cycle in cycles:
@@ -102,9 +103,9 @@ def independent(cycles: Iterable[Cycle]) -> List[Cycle]:
 
 
 def is_integral(cycles: Sequence[Cycle], tree: Set[int]) -> bool:
-    """Whether each cycle is a whole sum of these: their determinant over the arcs beside a tree is 1 or -1.
+    """Whether each cycle is an integer sum of these: their determinant over the arcs outside a tree is 1 or -1.
 
-    Over two it is only known to be odd, and then the formulation might admit what no timetable has.
+    Modulo two it is only known to be odd, and then the formulation might admit solutions that are not timetables.
     """
     beside = sorted({place for cycle in cycles for place in cycle} - tree)
     matrix = [[cycle.get(place, 0) for place in beside] for cycle in cycles]
@@ -123,7 +124,8 @@ def is_integral(cycles: Sequence[Cycle], tree: Set[int]) -> bool:
 
 
 def basis_of(arcs: Sequence[Arc]) -> List[Cycle]:
-    """Horton's narrow cycles where these are integral and can be looked for, and those over the least ways of one node of each part otherwise."""
+    """Horton's narrow cycles if these are integral and small enough to compute, and otherwise those over the least paths from one
+    node of each part."""
     near = arcs_by_node(arcs)
     reached: Set[int] = set()
     tree: Set[int] = set()
@@ -155,6 +157,6 @@ def range_of(arcs: Sequence[Arc], cycle: Cycle, period: int) -> Tuple[int, int, 
 
 
 def periods_within(least: int, most: int, period: int) -> Tuple[int, int]:
-    """The least and the greatest number of periods that is between two numbers; where none is, the two beside, which no equation is met by."""
+    """The least and the greatest number of periods between two numbers; if there is none, two that no equation can meet."""
     first, last = sorted([-(-least // period), most // period])
     return first, last

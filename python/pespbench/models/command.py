@@ -33,13 +33,13 @@ def add_parser(subparsers: argparse._SubParsersAction[argparse.ArgumentParser]) 
 
 
 def add_formulation(parser: argparse.ArgumentParser) -> None:
-    """Adds the word that says which formulation it is."""
+    """Adds the option that chooses the formulation."""
     both = "whole periods for each cycle of a narrow basis, or a time for each event [default: cycles]"
     parser.add_argument("--by", choices=FORMULATIONS, default="cycles", help=both)
 
 
 def run(words: argparse.Namespace) -> int:
-    """Writes the files that were asked for. Raises WrongWords where none was."""
+    """Writes the requested files. Raises WrongWords if there is none."""
     if words.lp is None and words.mps is None:
         raise WrongWords("export wants --lp FILE or --mps FILE")
     with open_network(words) as bench:
@@ -52,7 +52,7 @@ def run(words: argparse.Namespace) -> int:
 
 
 def run_back(words: argparse.Namespace) -> int:
-    """Tells what the timetable violates and costs, as the program replies; the status is 1 where it violates something."""
+    """Prints what the timetable violates and costs, like the program; the status is 1 if it violates something."""
     with open_network(words) as bench:
         bench.set_times(timetable_of(words.sol, bench.network, words.by))
         violations = bench.violations()

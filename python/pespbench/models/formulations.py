@@ -1,4 +1,4 @@
-"""The two formulations of a network, and the timetable that the columns of each tell."""
+"""The two formulations of a network, and the timetable that the columns of each give."""
 
 from __future__ import annotations
 
@@ -8,19 +8,19 @@ from pespbench.models.basis import ORIGIN, arcs_by_node, arcs_of, asking, basis_
 from pespbench.models.model import Column, Model, Row
 from pespbench.network import Network
 
-# What is told of columns by their names; nothing is told of one that is in no row and costs nothing.
+# The values of columns by their names; one that is in no row and costs nothing may be missing.
 Values = Mapping[str, int]
 
 
 class Formulation(NamedTuple):
-    """How a network is written as a model, and which time for each event its columns tell."""
+    """How a network is written as a model, and the times of events that its columns give."""
 
     model: Callable[[Network], Model]
     times: Callable[[Network, Values], Dict[int, int]]
 
 
 def by_times(network: Network) -> Model:
-    """A whole time for each event; whole periods and a slack for each activity, which make an equation with the times of its ends."""
+    """A whole time for each event; whole periods and a slack for each activity, in an equation with the times of its ends."""
     period, bounds = network.period, {event: time_bounds(network, event) for event in network.events}
     columns = [Column(f"t{event}", *bounds[event], is_whole=True) for event in network.events]
     slacks, rows = [], []
@@ -37,7 +37,7 @@ def by_times(network: Network) -> Model:
 
 
 def told_by_times(network: Network, values: Values) -> Dict[int, int]:
-    """The times that columns tell; an event without one is at the first time of its window."""
+    """The times that columns give; an event without one is at the first time of its window."""
     return {event: values.get(f"t{event}", time_bounds(network, event)[0]) % network.period for event in network.events}
 
 
@@ -48,7 +48,7 @@ def time_bounds(network: Network, event: int) -> Tuple[int, int]:
 
 
 def by_cycles(network: Network) -> Model:
-    """A slack for each activity and window; whole periods for each cycle of a basis, round which the tensions add up to these."""
+    """A slack for each activity and window; whole periods for each cycle of a basis, to which the tensions around it sum."""
     arcs, period = arcs_of(network), network.period
     slacks = [Column(arc.name, 0, arc.width, arc.weight) for arc in arcs]
     periods, rows = [], []
@@ -61,7 +61,7 @@ def by_cycles(network: Network) -> Model:
 
 
 def told_by_cycles(network: Network, values: Values) -> Dict[int, int]:
-    """The times that slacks lead to, from 0 at the origin, and at one event of each part that is not reached from there."""
+    """The times that result from slacks, from 0 at the origin, and at one event of each part that is not connected to it."""
     arcs = arcs_of(network)
     near, times = arcs_by_node(arcs), {ORIGIN: 0}
     for start in [ORIGIN, *network.events]:
@@ -78,7 +78,7 @@ def told_by_cycles(network: Network, values: Values) -> Dict[int, int]:
 
 
 def title_of(network: Network, name: str) -> str:
-    """What a model is of."""
+    """The network of a model."""
     return f"{len(network.windows)} events and {len(network.activities)} activities at period {network.period}, by {name}"
 
 

@@ -6,14 +6,14 @@ from dataclasses import dataclass
 from itertools import groupby
 from typing import Dict, Iterable, Iterator, List, NamedTuple, Sequence, Tuple
 
-# It stands at 0, so that there is a row where nothing else is.
+# A column fixed at 0, so that there is a row even if nothing else is.
 ORIGIN = "origin"
 # The terms of a line: readers have limits of a few hundred bytes.
 TERMS_OF_LINE = 8
 
 
 class Column(NamedTuple):
-    """What a solver chooses, within bounds that are part of it; each unit costs `weight`."""
+    """A variable of the solver, within its bounds; each unit costs `weight`."""
 
     name: str
     lower: int
@@ -23,7 +23,7 @@ class Column(NamedTuple):
 
 
 class Row(NamedTuple):
-    """Its terms, each a column with its factor, add up to `value`."""
+    """Its terms, each a column with its factor, sum to `value`."""
 
     name: str
     terms: Sequence[Tuple[str, int]]
@@ -32,7 +32,7 @@ class Row(NamedTuple):
 
 @dataclass(frozen=True)
 class Model:
-    """Columns and rows; the sum of what columns cost is to be least."""
+    """Columns and rows; the total cost of the columns is minimized."""
 
     title: str
     columns: Sequence[Column]
@@ -40,7 +40,7 @@ class Model:
 
     @classmethod
     def of(cls, title: str, columns: Iterable[Column], rows: Iterable[Row]) -> "Model":
-        """A model that has a row, and of the columns those with a weight or in a row: readers refuse the others."""
+        """A model with at least one row, and only columns with a weight or in a row: readers refuse the others."""
         kept = [*rows] or [Row("still", [(ORIGIN, 1)], 0)]
         named = {name for row in kept for name, _ in row.terms}
         origin = [Column(ORIGIN, 0, 0)] if ORIGIN in named else []
@@ -58,7 +58,7 @@ class Model:
         return "\n".join([*lines, *(["Generals", *whole] if whole else []), "End", ""])
 
     def mps(self) -> str:
-        """The text in the MPS format: a free one, and a fixed one too where no name has more than 8 letters."""
+        """The text in the MPS format: a free one, and also a fixed one if no name has more than 8 letters."""
         lines = [f"* {self.title}", "NAME          pespbench", "ROWS", " N  cost", *(f" E  {row.name}" for row in self.rows), "COLUMNS"]
         costs = {column.name: [mps_line("", column.name, "cost", column.weight)] for column in self.columns if column.weight}
         entries: Dict[str, List[str]] = {column.name: costs.get(column.name, []) for column in self.columns}
@@ -80,7 +80,7 @@ def lp_lines(name: str, terms: Sequence[Tuple[str, int]]) -> List[str]:
 
 
 def mps_line(kind: str, first: str, second: str, value: int) -> str:
-    """A line whose fields stand in their columns, where names are short enough."""
+    """A line whose fields are in their columns, if names are short enough."""
     return f" {kind:<2} {first:<8}  {second:<8}  {value:>12}"
 
 
@@ -90,7 +90,7 @@ def mps_marker(word: str) -> str:
 
 
 def mps_bounds(columns: Iterable[Column]) -> Iterator[str]:
-    """Both bounds of each column: what stands for one that is missing, readers do not agree on."""
+    """Both bounds of each column: readers disagree on the defaults."""
     for column in columns:
         yield mps_line("LO", "BND", column.name, column.lower)
         yield mps_line("UP", "BND", column.name, column.upper)

@@ -1,4 +1,4 @@
-"""A solver's solution, from the file that it writes: cbc, glpsol (`-o`), HiGHS and Gurobi."""
+"""A solver's solution, from its file: cbc, glpsol (`-o`), HiGHS and Gurobi."""
 
 from __future__ import annotations
 
@@ -12,14 +12,14 @@ from pespbench.network import Network
 from pespbench.records import content
 
 Path = Union[str, "os.PathLike[str]"]
-# Digits, and blanks, match in one way alone: what has two is tried again for each of them in a long line.
+# Digits, and blanks, match in only one way: a pattern with two ways tries each of them again in a long line.
 NUMBER = r"([+-]?(?:[0-9]+(?:\.[0-9]*)?|\.[0-9]+)(?:[eE][+-]?[0-9]+)?)"
-# So far from a whole number may be what a solver tells of one.
+# A solver's whole number may differ from one by this.
 TOLERANCE = 1e-3
 
 
 class Form(NamedTuple):
-    """How a solver's file begins, the line above its columns, the one below, and a column with its name and value."""
+    """The first line of a solver's file, the line above its columns, the one below, and a column with its name and value."""
 
     beginning: Pattern[str]
     above: Optional[Pattern[str]]
@@ -36,15 +36,15 @@ GLPSOL = Form(
 HIGHS = Form(re.compile("Model status|# Primal solution values"), re.compile("# Columns"), re.compile("#"), PLAIN)
 GUROBI = Form(re.compile("# (?:Solution for model|Objective value)"), None, None, PLAIN)
 FORMS = (CBC, GLPSOL, HIGHS, GUROBI)
-# What one of the first lines is where nothing was found.
+# The first lines of a file without a solution.
 NOTHING = re.compile(r"(?:Integer )?infeasible|Status: +(?:INTEGER )?(?:EMPTY|UNDEFINED|INFEASIBLE)|.*no integer solution|None$", re.IGNORECASE)
 FIRST_LINES = 8
 
 
 def timetable_of(path: Path, network: Network, formulation: str = "cycles") -> Dict[int, int]:
-    """The timetable of a solver's file, for the model that such a formulation makes of the network.
+    """The timetable of a solver's file, for the model of the network in this formulation.
 
-    Whether it meets everything is not looked at here. Raises OSError, FileFault and, for another formulation, WrongWords.
+    Whether it meets everything is not checked here. Raises OSError, FileFault and, for another formulation, WrongWords.
     """
     how = formulation_of(formulation)
     model, values = how.model(network), {}
@@ -66,7 +66,7 @@ def formulation_of(name: str) -> Formulation:
 
 
 def read_solution(path: Path) -> Dict[str, float]:
-    """What a solver's file tells by name. Raises OSError, and FileFault for another file and where nothing was found."""
+    """The values of a solver's file by name. Raises OSError, and FileFault if it is not such a file, or has no solution."""
     lines = content(path).decode("utf-8", "replace").splitlines()
     form = next((form for form in FORMS if lines and form.beginning.match(lines[0])), None)
     if form is None:

@@ -1,4 +1,4 @@
-"""A report on a network: the page with what the program said of it inside, one HTML file that is read, printed and worked on."""
+"""A report on a network: the page with the program's replies inside, one HTML file to read, print and edit."""
 
 from pespbench.places import read_places
 from pespbench.report.command import add_parser

@@ -36,7 +36,7 @@ def add_parser(subparsers: argparse._SubParsersAction[argparse.ArgumentParser]) 
 
 
 def run(words: argparse.Namespace) -> int:
-    """Writes the report, and the netgraph alone where it is asked for; without Node the report alone, which is said."""
+    """Writes the report, and the netgraph alone if it is requested; without Node only the report, with a warning."""
     places = places_for(words)
     with open_network(words) as bench:
         found = None if words.search is None else searched(bench, words.search)
@@ -46,7 +46,7 @@ def run(words: argparse.Namespace) -> int:
     if output == "-":
         sys.stdout.write(text)
     elif words.output is None:
-        # Nobody named it, so a link that stands there is not written through.
+        # Nobody chose this name, so a link in its place is not followed.
         write_set(Path(), {output: text})
         tell(f"{shown(output)}\n")
     else:
@@ -57,14 +57,14 @@ def run(words: argparse.Namespace) -> int:
 
 
 def places_for(words: argparse.Namespace) -> Optional[dict[str, Place]]:
-    """The places of the file that is named, or of the one in the network's folder; None where there is neither."""
+    """The places of the named file, or of the one in the network's folder; None if there is neither."""
     is_folder = Path(words.network).is_dir()
     path = words.places or (own_file(words.network, "places") if is_folder else None)
     return None if path is None else read_places(path)
 
 
 def searched(bench: Bench, limit: float) -> Optional[Found]:
-    """What a search found; its timetable, where there is one, is the working timetable from then on."""
+    """The result of a search; its timetable, if there is one, becomes the working timetable."""
     with Line() as line:
         found = bench.search(limit, watch=line).found()
     if found.times:

@@ -50,7 +50,7 @@ class Element {
 
   get children() { return this.childNodes.filter(node => node instanceof Element); }
 
-  // The elements within that have a tag and a class, as `text.end`.
+  // The elements within that have a tag and a class, such as `text.end`.
   querySelectorAll(selector) {
     const [tag, name] = selector.split('.');
     return this.children.flatMap(node => [...node.tagName === tag && (node.getAttribute('class') || '').split(' ').includes(name) ? [node] : [], ...node.querySelectorAll(selector)]);
@@ -67,7 +67,7 @@ class Element {
 const make = tag => new Element(tag);
 const document = { createElement: make, createElementNS: (_, tag) => make(tag), getElementById: () => make('div'), body: make('body') };
 
-// The page's scripts but its last one, which starts the page; the one before gives what is drawn by.
+// The page's scripts without the last one, which starts the page; the one before returns the drawing functions.
 const started = html => {
   const scripts = [...html.matchAll(/<script(?: data-modules=\w+)?>([^]*?)<\/script>/g)].map(found => found[1]).slice(1, -1);
   const context = vm.createContext({ document, performance, TextEncoder, TextDecoder, console });
@@ -76,7 +76,7 @@ const started = html => {
   return vm.runInContext('window.Page', context);
 };
 
-// A picture has no variables of a style: its colors are those of the page where it is light.
+// A picture has no style variables: its colors are those of the light page.
 const picture = (html, svg) => {
   const styles = [...html.matchAll(/<style>([^]*?)<\/style>/g)].map(found => found[1]).join(''), [, root] = /:root \{([^}]*)\}/.exec(styles);
   const colors = new Map([...root.matchAll(/--([\w-]+): *([^;]+)/g)].map(([, name, color]) => [name, color.trim()]));

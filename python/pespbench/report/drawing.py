@@ -13,16 +13,16 @@ SECONDS = 120
 
 
 class NoNode(OSError):
-    """There is no Node here, or it does not draw."""
+    """Node is missing, or does not draw."""
 
 
 def netgraph_of(content: Content) -> str:
-    """The netgraph alone, as a picture in SVG; an empty one where no two stations are known. Raises NoNode and NoPage."""
+    """The netgraph alone, as an SVG picture; empty if fewer than two stations are known. Raises NoNode and NoPage."""
     return drawn("netgraph", content)
 
 
 def drawn(what: str, content: Content) -> str:
-    """What Node draws of a content: the `netgraph` as a picture, or the `report` as elements. Raises NoNode and NoPage."""
+    """What Node draws from a content: the `netgraph` as a picture, or the `report` as elements. Raises NoNode and NoPage."""
     node = shutil.which("node")
     if node is None:
         raise NoNode("no netgraph is drawn: it is drawn by the page's JavaScript under Node, and there is no command node")

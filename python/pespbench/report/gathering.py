@@ -1,4 +1,4 @@
-"""Asks a bench for all that a report shows, as plain values: all numbers are those of replies, all names those of labels."""
+"""Queries a bench for all that a report shows, as plain values: all numbers are those of replies, all names those of labels."""
 
 from __future__ import annotations
 
@@ -13,12 +13,12 @@ from pespbench.terminal import shown
 from pespbench.wording import found_text
 
 NO_TIME = 11
-# What page/script/draw/report.js reads: rows of numbers and names, of which nothing steers a terminal.
+# The input of page/script/draw/report.js: rows of numbers, and names without control characters.
 Content = Dict[str, Any]
 
 
 def gather(bench: Bench, title: str, places: Optional[Mapping[str, Place]] = None, found: Optional[Found] = None) -> Content:
-    """What the bench's network, working timetable and labels are, by its replies.
+    """The bench's network, working timetable and labels, by its replies.
 
     Args:
         bench: is asked for domains, tensions, violations and cost.
@@ -52,7 +52,7 @@ def network_of(bench: Bench) -> Content:
 
 
 def labels_of(bench: Bench) -> Content:
-    """The names of what is there."""
+    """The names of events and activities."""
     events = bench.labels.events.items()
     rows = [[event, *map(shown, (each.line, each.to, each.station, each.kind))] for event, each in events]
     kinds = [[activity, shown(kind)] for activity, kind in bench.labels.activities.items()]
@@ -60,12 +60,12 @@ def labels_of(bench: Bench) -> Content:
 
 
 def domains_of(domains: Mapping[int, Domain], period: int) -> List[Any]:
-    """The minutes of the events that cannot be at each of them."""
+    """For each event, the minutes at which it cannot be."""
     return [[event, each.residues] for event, each in domains.items() if len(each.residues) < period]
 
 
 def timetable_of(bench: Bench) -> Content:
-    """What the working timetable makes; `missing` says which event lacks a time, and nothing else is known then.
+    """The replies on the working timetable; if an event lacks a time, only `missing`, which names it.
 
     Raises Refused and BadReply.
     """

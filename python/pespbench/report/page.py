@@ -1,4 +1,4 @@
-"""The report as one page of HTML: the page of the repository, which asks for nothing, with the content inside."""
+"""The report as one page of HTML: the page of the repository, which sends no requests, with the content inside."""
 
 from __future__ import annotations
 
@@ -10,12 +10,12 @@ from pespbench.beside import place_of
 from pespbench.report.gathering import Content
 
 NAME = "pespbench.html"
-# What the page has in the place of a report's content.
+# The placeholder of the page for a report's content.
 EMPTY = '<script type="application/json" id="given"></script>'
 
 
 class NoPage(OSError):
-    """The page is not where it is looked for."""
+    """The page is missing."""
 
 
 def page_of(content: Content) -> str:
@@ -27,7 +27,7 @@ def page_of(content: Content) -> str:
 
 
 def written(content: Content) -> str:
-    """The content in characters of ASCII alone, none of which begins or ends an element."""
+    """The content in ASCII, without characters that begin or end an element."""
     return json.dumps(content, separators=(",", ":"), allow_nan=False).replace("<", "\\u003c").replace(">", "\\u003e").replace("&", "\\u0026")
 
 
@@ -40,7 +40,7 @@ def page_text() -> str:
 
 
 def page_path() -> Path:
-    """Where the page is: as PESPBENCH_PAGE says, else in the package or the repository. Raises NoPage."""
+    """The path of the page: PESPBENCH_PAGE, else in the package or the repository. Raises NoPage."""
     named = os.environ.get("PESPBENCH_PAGE")
     place = Path(named) if named else place_of(NAME)
     if not place.is_file():

@@ -1,4 +1,4 @@
-"""Why no timetable meets everything: a least set that cannot be met together, in words, with what mends it."""
+"""Why no timetable meets everything: a minimal set that cannot be met together, in words, with its repairs."""
 
 from pespbench.why.answers import Conflict, Mend, Possible, Undecided, Why
 from pespbench.why.command import add_parser

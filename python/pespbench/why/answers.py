@@ -1,4 +1,4 @@
-"""What `why` answers."""
+"""The answers of `why`."""
 
 from __future__ import annotations
 
@@ -18,16 +18,16 @@ class Possible:
 
 @dataclass(frozen=True)
 class Undecided:
-    """No timetable was found, and no conflict, by searches of up to so many nodes."""
+    """Neither a timetable nor a conflict was found, by searches with up to this many nodes."""
 
     nodes: int
 
 
 @dataclass(frozen=True)
 class Mend:
-    """The least widening of one member with which the conflict is none any more, by minutes more, or less where `is_less`.
+    """The least widening of one member that removes the conflict, by minutes more, or less if `is_less`.
 
-    `whole` says whether the whole network has a timetable then, and is None where that was not asked.
+    `whole` says whether the whole network then has a timetable, and is None if that was not searched.
     """
 
     member: Member
@@ -44,12 +44,12 @@ class Mend:
 
 @dataclass(frozen=True)
 class Conflict:
-    """Members that cannot be met together, where nothing else is asked for.
+    """Members that cannot be met together, even without all other constraints.
 
-    `without` says for each member what a search of `nodes` nodes found of the set without it: a timetable, or nothing.
-    Where each has a timetable, the set is least in truth; else just no set with one member less is seen to be infeasible
-    by that search. `mends` are in the order in which they are best: those that mend the whole network before the others,
-    and among them by minutes.
+    `without` has for each member the result of a search with `nodes` nodes of the set without it: a timetable, or
+    nothing. If each has a timetable, the set is truly minimal; otherwise that search only shows no smaller set to be
+    infeasible. `mends` are in the order of preference: those that repair the whole network before the others, and among
+    them by minutes.
     """
 
     members: dict[Member, Bounds]
@@ -61,7 +61,7 @@ class Conflict:
 
     @property
     def is_least(self) -> bool:
-        """Whether the set without any one of its members has a timetable, which was found."""
+        """Whether a timetable was found for the set without any one of its members."""
         return all(verdict is Verdict.POSSIBLE for verdict in self.without.values())
 
 

@@ -34,7 +34,7 @@ def some_seconds(text: str) -> float:
 
 
 def run(words: argparse.Namespace) -> int:
-    """Tells why, on standard output."""
+    """Prints the answer."""
     with open_network(words) as bench:
         hard = None if words.hard is None else [kind for kind in map(str.strip, words.hard.split(",")) if kind]
         answer = why(bench, hard, words.nodes, words.seconds, words.lower)

@@ -1,4 +1,4 @@
-"""Finds out why a network has no timetable."""
+"""Finds the reason why a network has no timetable."""
 
 from __future__ import annotations
 
@@ -16,18 +16,18 @@ from pespbench.why.probe import Probe
 from pespbench.why.shapes import shape_of
 from pespbench.why.shrinking import Test, least, settled
 
-# The nodes of the first search of the whole network, and by how much more each search after it may have.
+# The nodes of the first search of the whole network, and the factor for each later one.
 FIRST_NODES, MORE = 500, 4
-# The kind by which fixed times and windows are named where kinds are held hard.
+# The kind of fixed times and windows, for `hard`.
 FIXED = "fixed"
 
 
 def why(bench: Bench, hard: Optional[Collection[str]] = None, nodes: int = 2_000, seconds: float = 10.0, lower: bool = False) -> Why:
-    """A least set of activities, fixed times and windows of a network that cannot be met together.
+    """A minimal set of activities, fixed times and windows of a network that cannot be met together.
 
-    There is none where the working timetable meets everything, which is looked at first. The bench is not changed, for a
-    program of its own is asked. What is no part of the conflict is let go by halves, as long as single activities alone show
-    an empty domain; then by searches.
+    There is none if the working timetable meets everything, which is checked first. The bench does not change, since a
+    program of its own is used. Members outside the conflict are dropped by bisection, as long as an empty domain shows that
+    the rest is infeasible; then by searches.
 
     Args:
         hard: kinds of activities, by the bench's labels, that are not to be changed; `fixed` are fixed times and windows.
@@ -52,13 +52,13 @@ def why(bench: Bench, hard: Optional[Collection[str]] = None, nodes: int = 2_000
 
 
 def usually_hard(bench: Bench) -> list[str]:
-    """The kinds that are not to be changed where none is named."""
+    """The kinds that must not change, by default."""
     known = set(bench.labels.activities.values())
     return [kind for kind in USUALLY_KEPT if kind in known]
 
 
 def hard_members(bench: Bench, kinds: Collection[str]) -> frozenset[Member]:
-    """The members of some kinds. Raises WrongWords for one that is not known."""
+    """The members of some kinds. Raises WrongWords for an unknown kind."""
     labels: Labels = bench.labels
     known = dict.fromkeys([*sorted(filter(None, set(labels.activities.values()))), FIXED])
     unknown = [kind for kind in kinds if kind not in known]
@@ -70,13 +70,13 @@ def hard_members(bench: Bench, kinds: Collection[str]) -> frozenset[Member]:
 
 
 class Finding:
-    """The way to a conflict, over one probe; members that are just usually hard are not where nothing else is in it."""
+    """The search for a conflict, with one probe; members that are hard by default may change if nothing else is in it."""
 
     def __init__(self, probe: Probe, hard: frozenset[Member], is_usual: bool, nodes: int, seconds: float, lower: bool) -> None:
         self.probe, self.hard, self.is_usual, self.nodes, self.seconds, self.lower = probe, hard, is_usual, nodes, seconds, lower
 
     def answer(self) -> Why:
-        """A timetable, a conflict, or neither where none was found in time."""
+        """A timetable, a conflict, or neither if none was found in time."""
         if self._is_seen_by_domains():
             return self._conflict(self._least(list(self.probe.members), self._by_domains))
         nodes, until = FIRST_NODES, time.monotonic() + self.seconds
@@ -120,14 +120,14 @@ class Finding:
         return {member: self.probe.members[member] for member in members}
 
     def _least(self, members: list[Member], test: Test) -> list[Member]:
-        """The least set by a test: as few that may be changed as can be, and then as few of the hard ones."""
+        """The minimal set by a test: with as few members as possible that may change, and then as few of the hard ones."""
         hard = [member for member in members if member in self.hard]
         soft = [member for member in members if member not in self.hard]
         needed = least(soft, hard, test)
         return needed + least(hard, needed, test)
 
     def _conflict(self, members: list[Member]) -> Conflict:
-        """What is told of a set; by searches, which see more than domains, some of its members may turn out not to be needed."""
+        """The answer for a set; searches see more than domains, so some of its members may turn out to be unnecessary."""
         members = settled(members, self._by_search)
         kept = {member: self.probe.members[member] for member in sorted(members, key=by_kind)}
         without = {member: self._without(members, member) for member in kept}

@@ -1,4 +1,4 @@
-"""What can be in a conflict: the span of an activity, or the fixed time or window of an event."""
+"""The possible members of a conflict: the span of an activity, or the fixed time or window of an event."""
 
 from __future__ import annotations
 
@@ -10,7 +10,7 @@ from pespbench.network import Network
 
 
 class Verdict(Enum):
-    """What a test says of a set of members."""
+    """The result of a test of a set of members."""
 
     INFEASIBLE = "infeasible"
     POSSIBLE = "possible"
@@ -18,7 +18,7 @@ class Verdict(Enum):
 
 
 class Of(Enum):
-    """Whose member it is."""
+    """The activity or event of a member."""
 
     ACTIVITY = "activity"
     EVENT = "event"
@@ -40,11 +40,11 @@ class Span:
     upper: int
 
     def is_binding(self, period: int) -> bool:
-        """Whether some two times do not meet it."""
+        """Whether some pair of times does not meet it."""
         return self.upper - self.lower < period - 1
 
     def widened(self, count: int, is_later: bool) -> Span:
-        """The span with so many minutes more above, or below."""
+        """The span with this many minutes more above, or below."""
         return Span(self.lower, self.upper + count) if is_later else Span(self.lower - count, self.upper)
 
 
@@ -57,22 +57,22 @@ class Held:
     period: int
 
     def is_binding(self, period: int) -> bool:
-        """Whether some time is outside."""
+        """Whether some time is outside of it."""
         return self.length < period
 
     def widened(self, count: int, is_later: bool) -> Held:
-        """The window with so many minutes more after it, or before it."""
+        """The window with this many minutes more after it, or before it."""
         first = self.first if is_later else (self.first - count) % self.period
         return Held(first, self.length + count, self.period)
 
 
 Bounds = Union[Span, Held]
-# The members of a set, each with what it asks for.
+# The members of a set, each with its span or window.
 Kept = Mapping[Member, Bounds]
 
 
 def members_of(network: Network) -> dict[Member, Bounds]:
-    """The members that rule something out: activities ascending, then events."""
+    """The members that exclude something: activities ascending, then events."""
     period = network.period
     found: dict[Member, Bounds] = {}
     for number, activity in sorted(network.activities.items()):

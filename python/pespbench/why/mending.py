@@ -1,4 +1,4 @@
-"""The least widening of each member of a conflict that mends it."""
+"""The least widening of each member of a conflict that repairs it."""
 
 from __future__ import annotations
 
@@ -16,20 +16,21 @@ RANKS = {Verdict.POSSIBLE: 0, None: 1, Verdict.UNDECIDED: 2, Verdict.INFEASIBLE:
 
 
 class Mending:
-    """The widenings of a conflict's members, tried on a probe by searches of so many nodes; least minutes stay but for `lower`."""
+    """The widenings of a conflict's members, tried on a probe by searches with this many nodes; minimum minutes stay unless
+    `lower`."""
 
     def __init__(self, probe: Probe, kept: dict[Member, Bounds], shape: Optional[Shape], nodes: int, lower: bool) -> None:
         self.probe, self.kept, self.shape, self.nodes, self.lower = probe, kept, shape, nodes, lower
 
     def mends(self, members: list[Member], until: float) -> list[Mend]:
-        """The mends of some members, best first; whether each mends the whole network is asked until a time."""
+        """The repairs of some members, best first; until a time, each is also tried in the whole network."""
         found = [mend for mend in map(self.mend, members) if mend]
         found.sort(key=by_minutes)
         found = [self.with_whole(mend) if time.monotonic() < until else mend for mend in found]
         return sorted(found, key=lambda mend: (RANKS[mend.whole], *by_minutes(mend)))
 
     def mend(self, member: Member) -> Optional[Mend]:
-        """The least widening of a member, later where earlier takes as many minutes; None where none is seen to mend."""
+        """The least widening of a member, later if earlier takes as many minutes; None if none is found to repair it."""
         best: Optional[Mend] = None
         for is_later in (True, False) if self.lower or member.of is Of.EVENT else (True,):
             count = self._least_count(member, is_later, best.minutes - 1 if best else self._most_count(member))
@@ -39,7 +40,7 @@ class Mending:
         return best
 
     def with_whole(self, mend: Mend) -> Mend:
-        """The mend with what a search says of the whole network with it."""
+        """The repair, with the result of a search of the whole network."""
         whole = {**self.probe.members, mend.member: mend.after}
         if self.probe.by_domains(whole) is Verdict.INFEASIBLE:
             return replace(mend, whole=Verdict.INFEASIBLE)
@@ -50,7 +51,7 @@ class Mending:
         return period - bounds.length if isinstance(bounds, Held) else period - 1 - (bounds.upper - bounds.lower)
 
     def _least_count(self, member: Member, is_later: bool, most: int) -> Optional[int]:
-        """The least number of minutes, up to a most, that mends; None where the most does not."""
+        """The least number of minutes, up to a limit, that repairs; None if the limit does not."""
         bounds = self.kept[member]
         if isinstance(bounds, Span):
             most = min(most, GREATEST_BOUND - bounds.upper if is_later else lowered_by(bounds.lower))
@@ -62,7 +63,7 @@ class Mending:
         return least_number(most, is_mended, self._guess(member, is_later))
 
     def _guess(self, member: Member, is_later: bool) -> int:
-        """The minutes by which a circle or a way misses what it has to take; 1 where it is neither."""
+        """The minutes by which a circle or a path misses the required number; 1 if it is neither."""
         if self.shape is None:
             return 1
         (_, below), (above, _) = self.shape.wanted
@@ -74,21 +75,21 @@ class Mending:
 
 
 def lowered_by(lower: int) -> int:
-    """By how many minutes the least ones can be lowered; those that are not below 0 stay so."""
+    """By how many minutes the minimum can be lowered; it does not fall below 0 unless it was there."""
     return lower if lower >= 0 else GREATEST_BOUND + lower
 
 
 def least_number(most: int, holds: Callable[[int], bool], guess: int) -> Optional[int]:
-    """The least number from 1 to a most that holds, where a number holds that is above one that does.
+    """The least number from 1 to a limit for which a test holds, if it holds for all greater ones too.
 
-    The guess is tried first, and where it is right two tests are enough. None where no number holds.
+    The guess is tried first; if it is right, two tests are enough. None if the test fails at the limit.
     """
     low, high = 0, most + 1
     while high - low > 1:
         if low < guess < high:
             middle = guess
         elif guess == high:
-            # The guess holds; where it is the least number, the one below does not.
+            # The guess passes; if it is the least number, the one below fails.
             middle, guess = guess - 1, 0
         else:
             middle = (low + high) // 2
@@ -97,5 +98,5 @@ def least_number(most: int, holds: Callable[[int], bool], guess: int) -> Optiona
 
 
 def by_minutes(mend: Mend) -> tuple[int, str, int]:
-    """A key by which mends of few minutes come first, then activities before events, then by number."""
+    """A key by which repairs of few minutes come first, then activities before events, then by number."""
     return mend.minutes, mend.member.of.value, mend.member.number

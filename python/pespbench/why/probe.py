@@ -1,7 +1,8 @@
-"""Asks a bench about sets of members: what is not in a set is let go, and each free part is held at 0 somewhere.
+"""Queries a bench about sets of members: whatever is not in a set is released, and one event of each free part is held at 0.
 
-A part is what the activities of the set join. One without a window can be turned as a whole, for what joins it to others
-was let go, so holding one of its events at 0 takes no timetable away from which another could not be turned.
+The activities of the set divide the events into parts. A part without a window can be shifted as a whole, since its
+connections to others are released, so holding one of its events at 0 excludes no timetable that cannot be shifted into
+an admitted one.
 """
 
 from __future__ import annotations
@@ -20,7 +21,7 @@ Timetable = dict[int, int]
 
 
 class Probe:
-    """A bench while sets are asked about, which is left changed: its weights are 0 from the first."""
+    """A bench for questions about sets, which changes it: its weights are 0 from the start."""
 
     def __init__(self, bench: Bench) -> None:
         network = bench.network
@@ -30,30 +31,30 @@ class Probe:
         self.ends = {number: (each.from_event, each.to_event) for number, each in network.activities.items()}
         self.spans = {number: Span(each.lower, each.upper) for number, each in network.activities.items()}
         self.windows: dict[int, Optional[Window]] = dict(network.windows)
-        # The events that no activity joins that was asked for last.
+        # The events without an activity of the last set.
         self.alone: set[int] = set()
-        # The events that are held before others, in the parts that have them.
+        # The events that are held in preference to others, in the parts that have them.
         self.preferred: list[int] = []
         self.known: dict[tuple[frozenset[tuple[Member, Bounds]], int], Verdict] = {}
         self.roots = sorted({min(part) for part in parts_of(self.windows, self.ends.values())})
-        # With all weights 0 a search ends at the first timetable that it finds.
+        # With all weights 0 a search ends with the first timetable.
         self._send([f"weight {number} 0" for number, each in network.activities.items() if each.weight])
 
     def by_domains(self, kept: Kept) -> Verdict:
-        """Whether a domain is empty with the set alone: then it is infeasible, and else nothing is said."""
+        """Whether a domain is empty with only the set: then it is infeasible, and otherwise undecided."""
         answers = self._ask(kept, [f"domain {root}" for root in self.roots], is_all_held=False)
         is_empty = any(isinstance(answer, Domain) and not answer.residues for answer in answers)
         return Verdict.INFEASIBLE if is_empty else Verdict.UNDECIDED
 
     def by_search(self, kept: Kept, nodes: int) -> Verdict:
-        """What a search of so many nodes says of the set alone; the same set is not searched again."""
+        """The result of a search with this many nodes of only the set; the same set is not searched again."""
         asked = frozenset(kept.items()), nodes
         if asked not in self.known:
             self.known[asked] = self.search(kept, nodes)[0]
         return self.known[asked]
 
     def search(self, kept: Kept, nodes: int) -> tuple[Verdict, Timetable]:
-        """What a search of so many nodes says of the set alone, and the timetable that it found, where it found one."""
+        """The result of a search with this many nodes of only the set, and its timetable, if it found one."""
         [answer] = self._ask(kept, [f"try {nodes}"], is_all_held=True)
         if isinstance(answer, Infeasible):
             return Verdict.INFEASIBLE, {}
@@ -62,12 +63,12 @@ class Probe:
         return Verdict.UNDECIDED, {}
 
     def _ask(self, kept: Kept, questions: list[str], is_all_held: bool) -> list[Outcome]:
-        """The answers to questions where just the set is asked for; events without an activity of it are held if all are."""
+        """The answers to questions about only the set; events without an activity of it are held if all are."""
         spans = {number: self._span(kept, number) for number in self.spans}
         changed = [number for number, span in spans.items() if span != self.spans[number]]
         windows, alone = self._wanted_windows(kept, is_all_held)
-        # Spans are changed while domains are full, since each change costs the minutes that come and go: so what holds
-        # events goes first and comes last, but for events that nothing binds before and after.
+        # Spans are changed while domains are full, since each change costs the minutes that it removes or restores: so
+        # held events are released first and held again last, except for those without activities before and after.
         lifted = [event for event, window in self.windows.items() if window and event not in self.alone & alone]
         lifted = [event for event in lifted if changed or windows.get(event) != self.windows[event]]
         commands = [f"unfix {event}" for event in lifted]
@@ -81,17 +82,17 @@ class Probe:
         return self._send([*commands, *questions])[len(commands) :]
 
     def _span(self, kept: Kept, number: int) -> Span:
-        """The span of an activity in a set; where it is not in it, one that every two times meet."""
+        """The span of an activity in a set; if it is not in it, one that every pair of times meets."""
         bounds = kept.get(Member(Of.ACTIVITY, number))
         return bounds if isinstance(bounds, Span) else self._let_go(number)
 
     def _let_go(self, number: int) -> Span:
-        """A span that every two times meet, near the one that stands so that few domains change."""
+        """A span that every pair of times meets, near the present one so that few domains change."""
         lower = min(self.spans[number].lower, GREATEST_BOUND - self.period + 1)
         return Span(lower, lower + self.period - 1)
 
     def _wanted_windows(self, kept: Kept, is_all_held: bool) -> tuple[dict[int, Window], set[int]]:
-        """The windows of the set with one held event for each part that has none, and the events that nothing joins."""
+        """The windows of the set with one held event for each part that has none, and the events without an activity."""
         windows = {member.number: bounds for member, bounds in kept.items() if isinstance(bounds, Held)}
         windows = {event: held for event, held in windows.items() if held.is_binding(self.period)}
         wanted = {event: Window(held.first, held.length) for event, held in windows.items()}

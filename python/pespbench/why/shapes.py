@@ -1,4 +1,4 @@
-"""Whether a conflict is a circle of activities or a path between two windows, and what it takes along it."""
+"""Whether a conflict is a circle of activities or a path between two windows, and how long it takes."""
 
 from __future__ import annotations
 
@@ -11,42 +11,42 @@ from pespbench.why.members import Held, Kept, Of
 
 @dataclass(frozen=True)
 class Step:
-    """An activity of a way, and whether the way runs along it or against it."""
+    """An activity of a path, and whether the path runs along it or against it."""
 
     activity: Activity
     is_forward: bool
 
     @property
     def start(self) -> int:
-        """The event at which the way comes to the activity."""
+        """The event at which the path enters the activity."""
         return self.activity.from_event if self.is_forward else self.activity.to_event
 
     @property
     def end(self) -> int:
-        """The event at which the way leaves the activity."""
+        """The event at which the path leaves the activity."""
         return self.activity.to_event if self.is_forward else self.activity.from_event
 
 
 @dataclass(frozen=True)
 class Circle:
-    """Activities that come back to where they began, so that they have to take a whole number of periods."""
+    """Activities that return to their first event, so that they have to take a whole number of periods."""
 
     steps: list[Step]
     period: int
 
     @property
     def least(self) -> int:
-        """The least minutes along the way."""
+        """The least minutes along the path."""
         return least_of(self.steps)
 
     @property
     def most(self) -> int:
-        """The most minutes along the way."""
+        """The most minutes along the path."""
         return -least_of([Step(step.activity, not step.is_forward) for step in self.steps])
 
     @property
     def wanted(self) -> tuple[tuple[int, int], tuple[int, int]]:
-        """What the way would have to take: the nearest minutes below, and the nearest above, each from the least to the most."""
+        """The possible durations of the path: the nearest below, and the nearest above, each from the least to the most."""
         below = self.most // self.period * self.period
         return (below, below), (below + self.period, below + self.period)
 
@@ -62,20 +62,20 @@ class Way:
 
     @property
     def least(self) -> int:
-        """The least minutes along the way."""
+        """The least minutes along the path."""
         return least_of(self.steps)
 
     @property
     def most(self) -> int:
-        """The most minutes along the way."""
+        """The most minutes along the path."""
         return -least_of([Step(step.activity, not step.is_forward) for step in self.steps])
 
     @property
     def wanted(self) -> tuple[tuple[int, int], tuple[int, int]]:
-        """What the way would have to take, as of a circle."""
+        """The possible durations of the path, as of a circle."""
         shortest = self.last.first - (self.first.first + self.first.length - 1)
         width = self.first.length + self.last.length - 2
-        # The last that begins below the most that the way takes; as none fits, it ends below the least.
+        # The last one that begins below the most minutes of the path; as none fits, it ends below the least.
         below = shortest + (self.most - shortest) // self.period * self.period
         return (below, below + width), (below + self.period, below + self.period + width)
 
@@ -84,12 +84,12 @@ Shape = Union[Circle, Way]
 
 
 def least_of(steps: Sequence[Step]) -> int:
-    """The least minutes along some steps; an activity that is gone against takes its minutes away."""
+    """The least minutes along some steps; an activity in the opposite direction subtracts its minutes."""
     return sum(step.activity.lower if step.is_forward else -step.activity.upper for step in steps)
 
 
 def shape_of(kept: Kept, activities: dict[int, Activity], period: int) -> Optional[Shape]:
-    """The circle or the way that a set of members is, or None where it is neither."""
+    """The circle or the path that a set of members forms, or None if it is neither."""
     used = [activities[member.number] for member in kept if member.of is Of.ACTIVITY]
     windows = {member.number: bounds for member, bounds in kept.items() if isinstance(bounds, Held)}
     if len(windows) not in (0, 2) or not used:
@@ -109,7 +109,7 @@ def shape_of(kept: Kept, activities: dict[int, Activity], period: int) -> Option
 
 
 def walk(start: int, activities: Sequence[Activity]) -> list[Step]:
-    """The steps from an event on, as long as there is just one that was not gone; at the first event of a circle any."""
+    """The steps from an event on, as long as there is exactly one unused; at the first event of a circle any."""
     left = list(activities)
     steps: list[Step] = []
     event = start
@@ -124,7 +124,7 @@ def walk(start: int, activities: Sequence[Activity]) -> list[Step]:
 
 
 def turned(steps: list[Step]) -> list[Step]:
-    """The steps in the direction in which they take time rather than give it back; else in that of most activities."""
+    """The steps in the direction in which they take time rather than subtract it; otherwise in that of most activities."""
     back = [Step(step.activity, not step.is_forward) for step in reversed(steps)]
     least, most = least_of(steps), -least_of(back)
     return steps if (least + most, forward_of(steps)) >= (0, forward_of(back)) else back

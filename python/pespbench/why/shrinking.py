@@ -1,4 +1,4 @@
-"""Least sets: which members of an infeasible set are enough, by halves."""
+"""Minimal sets: which members of an infeasible set are enough, by bisection."""
 
 from __future__ import annotations
 
@@ -6,14 +6,14 @@ from typing import Callable, Sequence
 
 from pespbench.why.members import Member
 
-# Whether a set is seen to be infeasible.
+# Whether a set is found to be infeasible.
 Test = Callable[[Sequence[Member]], bool]
 
 
 def least(members: Sequence[Member], background: Sequence[Member], test: Test) -> list[Member]:
-    """Members that are infeasible together with the background, which has to hold for all of them.
+    """Members that are infeasible together with the background, all of whose members are required.
 
-    Where the test sees more in a larger set, none of them can be left out; `settled` sees to it where that is not so.
+    Where the test sees more in a larger set, none of them can be omitted; `settled` handles the other case.
     """
     if not members or test(background):
         return []
@@ -32,9 +32,9 @@ def _halves(background: list[Member], is_grown: bool, members: list[Member], tes
 
 
 def settled(members: Sequence[Member], test: Test) -> list[Member]:
-    """The members without those that can be left out one by one: no set with one member less is seen to be infeasible."""
+    """The members without those that can be omitted one by one: no set with one member less is found to be infeasible."""
     kept, is_changed = list(members), True
-    # What could not be left out beside a member that went afterwards perhaps can be now, so the last round changes nothing.
+    # A member that was needed beside another one, dropped later, may be unnecessary now, so the last round changes nothing.
     while is_changed:
         before = list(kept)
         for member in before:

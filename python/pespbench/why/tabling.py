@@ -1,4 +1,4 @@
-"""The answer to why, for other programs."""
+"""The answer of `why`, for other programs."""
 
 from __future__ import annotations
 
@@ -12,7 +12,7 @@ TITLES = ["part", "of", "number", "name", "lower", "upper", "hard", "minutes", "
 
 
 def table_of(answer: Why, names: Names) -> Table:
-    """The members of a conflict, in the order of their circle or way, and then its mends, with what they ask for."""
+    """The members of a conflict, in the order of their circle or path, and then its repairs, with their spans and windows."""
     if isinstance(answer, Possible):
         return Table("possible", {}, ["event", "time"], sorted(answer.times.items()))
     if isinstance(answer, Undecided):
@@ -24,6 +24,6 @@ def table_of(answer: Why, names: Names) -> Table:
 
 
 def told(member: Member, bounds: Bounds, names: Names) -> list[object]:
-    """Whose member it is, its name, and the first and the last that it may be."""
+    """The activity or event of a member, its name, and its first and last value."""
     ends = (bounds.first, bounds.first + bounds.length - 1) if isinstance(bounds, Held) else (bounds.lower, bounds.upper)
     return [member.of.value, member.number, member_name(member, names), *ends]

@@ -1,4 +1,4 @@
-"""The answer to why, in a planner's words."""
+"""The answer of `why`, in a planner's words."""
 
 from __future__ import annotations
 
@@ -9,14 +9,14 @@ from pespbench.why.members import Bounds, Held, Member, Of, Verdict
 from pespbench.why.shapes import Circle, Shape
 from pespbench.wording import Names, minutes, span_text, window_text
 
-# What is said above the mends with which the whole network is as a search says of it.
+# The heading above the repairs, by what a search says of the whole network with them.
 WHOLE = {
     Verdict.POSSIBLE: "with each of these the whole network has a timetable:",
     None: "these mend the conflict, and the whole network was not tried with them:",
     Verdict.UNDECIDED: "these mend the conflict, and whether the whole network has a timetable then is undecided:",
     Verdict.INFEASIBLE: "with each of these another conflict is left:",
 }
-# The kinds whose mends are told before others of as many minutes: theirs are the easiest to give.
+# The kinds whose repairs are listed before others of as many minutes: theirs are the easiest to make.
 FIRST_KINDS = ("turnaround", "turn", "change")
 
 
@@ -31,7 +31,7 @@ def text_of(answer: Why, names: Names) -> str:
 
 
 def members_text(conflict: Conflict, names: Names) -> str:
-    """What cannot be met together, along the circle or way where it is one."""
+    """The conflict, along the circle or path if it is one."""
     count = len(conflict.members)
     lines = [f"These {count} cannot be met together:" if count > 1 else "This cannot be met:", ""]
     rows = [member_row(member, conflict, names) for member in ordered(conflict)]
@@ -41,7 +41,7 @@ def members_text(conflict: Conflict, names: Names) -> str:
 
 
 def ordered(conflict: Conflict) -> list[Member]:
-    """The members in the order of the circle or way, a window beside the end that it holds; else by number."""
+    """The members in the order of the circle or path, a window beside its event; otherwise by number."""
     if conflict.shape is None:
         return list(conflict.members)
     steps = conflict.shape.steps
@@ -52,7 +52,7 @@ def ordered(conflict: Conflict) -> list[Member]:
 
 
 def member_row(member: Member, conflict: Conflict, names: Names) -> tuple[str, str]:
-    """A member's name and what it asks for."""
+    """A member's name and its span or window."""
     backward = conflict.shape and {step.activity.number for step in conflict.shape.steps if not step.is_forward}
     notes = ["against its direction"] if member.of is Of.ACTIVITY and backward and member.number in backward else []
     notes += ["hard"] if member in conflict.hard else []
@@ -66,14 +66,14 @@ def member_name(member: Member, names: Names) -> str:
 
 
 def bounds_text(bounds: Bounds) -> str:
-    """What a member asks for."""
+    """The span or window of a member."""
     if isinstance(bounds, Held):
         return window_text(bounds.first, bounds.length, bounds.period)
     return f"{span_text(bounds.lower, bounds.upper)} minutes"
 
 
 def shape_text(conflict: Conflict) -> str:
-    """The sum along a circle or a way."""
+    """The sum along a circle or a path."""
     shape = conflict.shape
     if shape is None:
         return ""
@@ -84,14 +84,14 @@ def shape_text(conflict: Conflict) -> str:
 
 
 def wanted_text(shape: Shape) -> str:
-    """The nearest minutes that a circle or way would have to take; fewer than none is only told where nothing else is."""
+    """The nearest possible durations of a circle or path; one below 0 is only listed if there is no other."""
     below, above = shape.wanted
     told = [span_text(*each) for each in (below, above) if each[0] >= 0 or each is above]
     return " or ".join(told)
 
 
 def claim_text(conflict: Conflict, names: Names) -> str:
-    """In which sense the set is least."""
+    """The sense in which the set is minimal."""
     if conflict.is_least:
         return "" if len(conflict.members) == 1 else "Without any one of them, the others have a timetable.\n"
     undecided = [member_name(member, names) for member, verdict in conflict.without.items() if verdict is Verdict.UNDECIDED]
@@ -100,7 +100,7 @@ def claim_text(conflict: Conflict, names: Names) -> str:
 
 
 def mends_text(conflict: Conflict, names: Names) -> str:
-    """What mends the conflict, best first."""
+    """The repairs of the conflict, best first."""
     if not conflict.mends:
         return "No member that may be changed is seen to mend it alone.\n"
     blocks = ["The least that mends it, for one member alone, best first;"]
@@ -113,7 +113,7 @@ def mends_text(conflict: Conflict, names: Names) -> str:
 
 
 def in_order(mends: Sequence[Mend], names: Names) -> list[Mend]:
-    """The mends as they come, but turnarounds and then changes before others of as many minutes and with the same answer."""
+    """The repairs in their order, but turnarounds and then changes before others of as many minutes and with the same result."""
 
     def rank(mend: Mend) -> tuple[int, int, int]:
         kind = names.labels.kind(mend.member.number) if mend.member.of is Of.ACTIVITY else ""
@@ -123,7 +123,7 @@ def in_order(mends: Sequence[Mend], names: Names) -> list[Mend]:
 
 
 def mend_rows(mends: Sequence[Mend], conflict: Conflict, names: Names) -> list[tuple[str, str, str]]:
-    """For each mend its minutes, where, and the change; those all along a circle or way, with the same minutes, are one."""
+    """For each repair its minutes, its place, and the change; those all along a circle or path, with the same minutes, are one."""
     alike = alike_of(mends, conflict)
     rows = []
     for mend in mends:
@@ -134,7 +134,7 @@ def mend_rows(mends: Sequence[Mend], conflict: Conflict, names: Names) -> list[t
 
 
 def alike_of(mends: Sequence[Mend], conflict: Conflict) -> list[Mend]:
-    """The mends of the steps along a circle or way that may be changed, if all have the same minutes; else none."""
+    """The repairs of the steps along a circle or path that may be changed, if all have the same minutes; otherwise none."""
     steps = conflict.shape.steps if conflict.shape else []
     along = {Member(Of.ACTIVITY, step.activity.number) for step in steps if step.is_forward} - conflict.hard
     found = [mend for mend in mends if mend.member in along and not mend.is_less]
@@ -143,10 +143,10 @@ def alike_of(mends: Sequence[Mend], conflict: Conflict) -> list[Mend]:
 
 
 def count_text(mend: Mend) -> str:
-    """By how many minutes a mend widens."""
+    """By how many minutes a repair widens."""
     return f"{minutes(mend.minutes)} {'less' if mend.is_less else 'more'}"
 
 
 def change_text(mend: Mend) -> str:
-    """What a mend asks for, and what is asked now."""
+    """The new and the present span or window of a repair."""
     return f"{bounds_text(mend.after)} in place of {bounds_text(mend.before).removesuffix(' minutes')}"
