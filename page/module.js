@@ -1,7 +1,7 @@
 'use strict';
 
-// The program in JavaScript: in a page, in a Worker and in Node. A run is whole, over the bytes of three files and of commands,
-// and keeps nothing; a session is opened of files, and answers one line after another until it is closed.
+// The program in JavaScript: in a page, in a Worker and in Node. A run is complete, over the bytes of three files and of commands,
+// and keeps nothing; a session is opened from files, and answers one line after another until it is closed.
 //
 //   const module = await PespModule.start(program);
 //   const { output, ending, fault } = PespModule.answer(module, { period, activities, fixed, times, commands });
@@ -12,16 +12,15 @@
 //   const { state, cost, lowerBound, goesOn, times, ending, fault } = PespModule.search(module, session, 1000);
 //   PespModule.close(module, session);
 //
-// `program` is what PespModule.compile made, or the bytes of the module. Files, commands and a line are bytes or text, and
-// nothing where they are left out. `output` is the replies, as a Uint8Array. `ending` is how the call ended, as
-// embedded/pespbench.h lists it: { status, place, reason, field }; its status is 0 where all lines are answered. `fault` is then
-// '', and else the program's own text for it, without its name, in which the one line of `ask` is line 1. `session` is null
-// where the files have a fault. `cost` is a BigInt; null where an event has no time. `bits` are the domains of events at a period,
-// one after another, each in as many whole bytes as hold a bit for each time. A search goes on by so many nodes at each call:
-// `state` is of enum pesp_search_state, `cost` and `lowerBound` are BigInts, `goesOn` says whether the next call goes on where
-// this one stopped, and `times` is a Uint16Array, a time for each event, ascending; none where it came to no timetable. After
-// an instance that was trapped, as by a stack that is too short, a call throws; its sessions are lost, and `start` makes a new
-// one, or `startNow`.
+// `program` is the result of PespModule.compile, or the bytes of the module. Files, commands and a line are bytes or text, and
+// empty by default. `output` has the replies, as a Uint8Array. `ending` says how the call ended, as embedded/pespbench.h lists
+// it: { status, place, reason, field }; its status is 0 if all lines are answered. `fault` is then '', and otherwise the
+// program's own text for it, without its name, in which the one line of `ask` is line 1. `session` is null if the files have a
+// fault. `cost` is a BigInt; null if an event has no time. `bits` are the domains of events at a period, one after another, each
+// in the whole bytes that hold a bit for each time. Each call of a search continues it with this many nodes: `state` is of enum
+// pesp_search_state, `cost` and `lowerBound` are BigInts, `goesOn` says whether the next call resumes this one, and `times` is a
+// Uint16Array, a time for each event, ascending; empty if it found no timetable. If an instance has trapped, for example because
+// its stack was too short, each call throws; its sessions are lost, and `start` or `startNow` makes a new one.
 const makePespModule = () => {
   const FILES = ['activities', 'fixed', 'times'];
   const ENDINGS = {
@@ -55,18 +54,18 @@ const makePespModule = () => {
     return file ? `${file} file, record ${ending.place}: ${REASONS[ending.reason](ending)}` : ENDINGS[ending.status](ending);
   };
 
-  // The number of bytes of what the module tells: two numbers of 64 bits, three of 32, and what C adds to them.
+  // The number of bytes of a call's report: two numbers of 64 bits, three of 32, and C's padding.
   const TOLD = 32;
-  // Those of a session, which has an address of 64 bits and a mark; of a cost, and of what a search has come to; the room for a line
-  // at first; and that in which each reply to a change fits, which is not asked for twice.
+  // Those of a session, which has an address of 64 bits and a mark; of a cost, and of a search's result; the first room for a
+  // line; and a room that fits each reply to a change, so that no change is repeated.
   const SESSION = 16, COST = 8, FOUND = 24, LINE = 1 << 10, OF_A_CHANGE = 128;
-  // A search is not asked for twice either: the times of all events that there may be fit in.
+  // No search is repeated either: the times of the greatest number of events fit.
   const LEAST_ROOM = 1 << 20;
 
-  // The digits of numbers of 4 bytes, which have 5 of them each.
+  // The digits of numbers of 4 bytes, which have 5 digits each.
   const DIGITS = '0123456789ABCDEFGHIJKLMNOPQRSTUVWXYZabcdefghijklmnopqrstuvwxyz!#,%.()*+-;:=[?@^_]{|}~';
 
-  // The bytes that a text in these digits has, of which the last number may have fewer, and then has one digit more than bytes.
+  // The bytes of a text in these digits. The last number may have fewer bytes, and then has one digit more than bytes.
   const bytesOfDigits = text => {
     const values = new Uint8Array(128), length = Math.floor(text.length * 4 / 5), view = new DataView(new ArrayBuffer(length + 4));
     [...DIGITS].forEach((digit, value) => { values[digit.charCodeAt(0)] = value; });
@@ -78,7 +77,7 @@ const makePespModule = () => {
     return new Uint8Array(view.buffer, 0, length);
   };
 
-  // The module of a page, which is packed there by deflate, compiled: this can be sent to a Worker, which starts it sooner.
+  // The module that is packed in a page by deflate, compiled: it can be sent to a Worker, which then starts sooner.
   const compile = text => {
     const bytes = new Blob([bytesOfDigits(text)]).stream().pipeThrough(new DecompressionStream('deflate-raw'));
     return WebAssembly.compileStreaming(new Response(bytes, { headers: { 'Content-Type': 'application/wasm' } }));
@@ -86,23 +85,23 @@ const makePespModule = () => {
 
   const started = instance => ({ calls: instance.exports, room: LEAST_ROOM });
 
-  // The module asks for nothing from outside.
+  // The module imports nothing.
   const start = async program => {
     const made = await WebAssembly.instantiate(program, {});
     return started(made.instance || made);
   };
 
-  // The same at once, of what was compiled.
+  // The same, synchronously, from the compiled module.
   const startNow = program => started(new WebAssembly.Instance(program, {}));
 
-  // The most bytes of memory that runs may take from now on; where one wants more, its answer says so.
+  // The most bytes of memory that runs may use from now on; if one needs more, its answer says so.
   const limit = (module, bytes) => module.calls.pesp_limit(BigInt(bytes));
 
   const encoder = new TextEncoder();
 
   const bytesOf = value => (typeof value === 'string' ? encoder.encode(value) : value || new Uint8Array(0));
 
-  // A block of the module's memory; it is 0 where there is none. No block is empty, since none may be nowhere.
+  // A block of the module's memory; 0 if there is none. No block is empty, since each needs an address.
   const take = (module, length) => module.calls.pesp_take(BigInt(Math.max(length, 1)));
 
   const put = (module, block, bytes) => new Uint8Array(module.calls.memory.buffer, Number(block), bytes.length).set(bytes);
@@ -117,7 +116,7 @@ const makePespModule = () => {
 
   const giveBack = (module, blocks) => blocks.forEach(block => module.calls.pesp_give_back(block));
 
-  // What the module tells: the length of the replies, and how the call ended.
+  // The report of a call: the length of the replies, and how the call ended.
   const toldAt = (module, block) => {
     const view = new DataView(module.calls.memory.buffer, Number(block), TOLD), place = Number(view.getBigUint64(8, true));
     const ending = { status: view.getUint32(16, true), place, reason: view.getUint32(20, true), field: view.getUint32(24, true) };
@@ -126,7 +125,7 @@ const makePespModule = () => {
 
   const outputAt = (module, block, length) => new Uint8Array(module.calls.memory.buffer, Number(block), length).slice();
 
-  // What one call tells, and the replies as far as there was room; null where memory is wanted for what the call is lent.
+  // The report of one call, and as much of the replies as fits; null if there is no memory for the arguments.
   const call = (module, period, parts, room) => {
     const blocks = [];
     try {
@@ -145,11 +144,11 @@ const makePespModule = () => {
 
   const ended = status => ({ status, place: 0, reason: 0, field: 0 });
 
-  // What is no number of 16 bits is no period.
+  // A value that is not a number of 16 bits is not a period.
   const wholeOf = period => Number.isInteger(period) && period >= 0 && period < 65536 ? period : 0;
 
-  // A run, once more with more room where the replies did not fit. Where there is no memory for what the call is lent,
-  // memory is wanted before the first line; where there is none for the room, the replies are those that fitted.
+  // A run, repeated with more room if the replies did not fit. Without memory for the arguments it ends as out of
+  // memory before the first line; without memory for the room, the replies are those that fitted.
   const answer = (module, { period, activities, fixed, times, commands }) => {
     const parts = [activities, fixed, times, commands].map(bytesOf);
     let came = call(module, wholeOf(period), parts, module.room) || { length: 0, output: new Uint8Array(0), ending: ended(6) };
@@ -161,12 +160,12 @@ const makePespModule = () => {
     return { output: came.output, ending: came.ending, fault: faultOf(came.ending) };
   };
 
-  // The blocks that a session has until it is closed, each with its bytes; null where there is no memory for them.
+  // The blocks that a session has until it is closed, each with its bytes; null if there is no memory for them.
   const blocksOfSession = module => {
     const room = Math.max(module.room, OF_A_CHANGE), blocks = [SESSION, TOLD, Math.max(COST, FOUND), LINE, room].map(length => take(module, length));
     if (blocks.every(Boolean)) {
       const [at, told, number, line, out] = blocks;
-      // One of zeros is closed.
+      // A session of zeros is closed.
       put(module, at, new Uint8Array(SESSION));
       return { at, told, number, line: { block: line, length: LINE }, out: { block: out, length: room } };
     }
@@ -176,7 +175,7 @@ const makePespModule = () => {
 
   const forget = (module, { at, told, number, line, out }) => giveBack(module, [at, told, number, line.block, out.block]);
 
-  // Opens a session of files; where memory is wanted, before the first line.
+  // Opens a session from files; out of memory is reported before the first line.
   const open = (module, { period, activities, fixed, times }) => {
     const parts = [activities, fixed, times].map(bytesOf), blocks = [], session = blocksOfSession(module);
     try {
@@ -193,7 +192,7 @@ const makePespModule = () => {
     }
   };
 
-  // Whether there is so much room, which is taken in the place of what was too small.
+  // Whether there is this much room, which replaces a smaller one.
   const isRoom = (module, room, length) => {
     if (length <= room.length) return true;
     const block = take(module, length);
@@ -208,7 +207,7 @@ const makePespModule = () => {
     return toldAt(module, told);
   };
 
-  // Asks a session a line, once more with more room where the reply did not fit.
+  // Sends a line to a session, again with more room if the reply did not fit.
   const ask = (module, session, line) => {
     const bytes = bytesOf(line), { out } = session;
     let came = { length: 0, ending: ended(6) };
@@ -229,10 +228,10 @@ const makePespModule = () => {
     return { cost: value, ending, fault: faultOf(ending) };
   };
 
-  // Whether the module tells domains in bits.
+  // Whether the module returns domains in bits.
   const canTellDomains = module => Boolean(module.calls.pesp_domain);
 
-  // Puts the domains into a room of so many bytes each, as far as they are told, and gives how the last call ended.
+  // Writes the domains into a room of this many bytes each, and returns how the last call ended.
   const putDomains = (module, { at, told, out }, events, bytes) => {
     let place = out.block;
     for (const event of events) {
@@ -244,14 +243,14 @@ const makePespModule = () => {
     return ended(0);
   };
 
-  // The domains of events; where one is not told, none of them.
+  // The domains of events; none of them if one is missing.
   const domains = (module, session, events, period) => {
     const { out } = session, bytes = Math.ceil(period / 8), length = bytes * events.length;
     const ending = isRoom(module, out, length) ? putDomains(module, session, events, bytes) : ended(5);
     return { bits: outputAt(module, out.block, ending.status ? 0 : length), ending, fault: faultOf(ending) };
   };
 
-  // Whether the module tells what a search has come to in numbers.
+  // Whether the module returns the results of searches in numbers.
   const canSearch = module => Boolean(module.calls.pesp_search);
 
   const foundAt = (module, block) => {
@@ -260,7 +259,7 @@ const makePespModule = () => {
     return { state: view.getUint32(16, true), cost: view.getBigUint64(0, true), lowerBound: view.getBigUint64(8, true), goesOn };
   };
 
-  // Looks for the optimum in so many nodes; null for all of it where that is not answered.
+  // Searches for the optimum with this many nodes; null if that is not answered.
   const search = (module, session, nodes) => {
     const { at, told, number, out } = session;
     module.calls.pesp_search(at, BigInt(nodes), out.block, BigInt(out.length >> 1), number, told);
@@ -270,7 +269,7 @@ const makePespModule = () => {
     return { ...foundAt(module, number), times, ending, fault: '' };
   };
 
-  // Closes a session, which is not used again.
+  // Closes a session, which must not be used again.
   const close = (module, session) => {
     module.calls.pesp_close(session.at);
     forget(module, session);
@@ -281,7 +280,7 @@ const makePespModule = () => {
 
 const PespModule = makePespModule();
 
-// The text by which a Worker has all of this too.
+// The source text by which a Worker gets all of this too.
 PespModule.text = `const PespModule = (${makePespModule})();`;
 
 if (typeof module === 'object') module.exports = PespModule;

@@ -1,8 +1,8 @@
-// A heap over the module's own memory, and what the compiled library calls. Nothing proves it.
+// A heap over the module's own memory, and what the compiled library calls. It is not proved.
 //
-// A block has a size of a class: a power of two, or one and a half of it. A block that is given back is kept for its
-// class. Where no block is out any more, as between two runs with no session open, the heap is as new, so nothing is lost to
-// old classes.
+// The size of a block is that of a class: a power of two, or one and a half times one. A freed block is kept for its class.
+// If no block is in use, as between two runs with no session open, the heap starts again, so that no memory is lost to old
+// classes.
 
 typedef __SIZE_TYPE__ size_t;
 typedef unsigned char byte;
@@ -10,7 +10,7 @@ typedef unsigned long u64;
 
 enum { PAGE = 65536, CLASSES = 128, HEAD = 16, LEAST = 32, AT_ONCE = 16 * PAGE };
 
-// In front of each block: its class, and the next kept block of the class.
+// In front of each block: its class, and the next free block of the class.
 struct head {
     size_t class;
     struct head *next;
@@ -18,11 +18,11 @@ struct head {
 
 extern byte __heap_base;
 
-// Blocks are below `top`, and may be made up to `end`; both are 0 before the first block.
+// Blocks are below `top`, and may extend to `end`; both are 0 before the first block.
 static size_t top, end;
 static struct head *kept[CLASSES];
 static size_t in_use, most_in_use;
-// No block is beyond `limit`, nor beyond what an address of 32 bits can name.
+// No block is beyond `limit`, nor beyond what an address of 32 bits can reach.
 static const size_t addressable = ((size_t)1 << 32) - PAGE;
 static size_t limit = (size_t)1 << 30;
 
@@ -30,7 +30,7 @@ static size_t bytes_of(size_t class) {
     return class & 1 ? (size_t)2 << (class / 2) : (size_t)3 << (class / 2 - 1);
 }
 
-// The least class whose blocks have so many bytes, which are at least LEAST.
+// The least class whose blocks have this many bytes, at least LEAST.
 static size_t class_of(size_t bytes) {
     size_t bit = 63 - __builtin_clzl(bytes - 1);
     return bytes <= (size_t)3 << (bit - 1) ? 2 * bit : 2 * bit + 1;
@@ -40,7 +40,7 @@ static size_t bytes_there(void) {
     return (size_t)__builtin_wasm_memory_size(0) * PAGE;
 }
 
-// Asks how large the memory is now, and not for the answer of memory.grow: where a tool has lowered the memory to 32
+// Queries the present size of memory, and not the result of memory.grow: if a tool has lowered the memory to 32
 // bits, a refusal is no longer -1 of 64 bits.
 static int grows(size_t bytes) {
     if (bytes > limit - end) return 0;
@@ -58,7 +58,7 @@ static void begin(void) {
     for (size_t class = 0; class < CLASSES; class++) kept[class] = 0;
 }
 
-// A block that was never out, or none where memory is wanted.
+// A block that was never used, or none if memory runs out.
 static struct head *new_block(size_t class) {
     size_t bytes = bytes_of(class);
     if (!top) begin();
@@ -147,7 +147,7 @@ EXPORTED("pesp_give_back") void pesp_give_back(byte *block) {
     given_back(block);
 }
 
-// Is asked for where no block is out.
+// To be called while no block is in use.
 EXPORTED("pesp_limit") void pesp_limit(size_t bytes) {
     limit = bytes < addressable ? bytes : addressable;
     begin();

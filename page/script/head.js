@@ -1,4 +1,4 @@
-// What is always on the screen: cost and violations, how many events are limited, and what can be done next.
+// The part that is always on the screen: cost and violations, how many events are limited, and what can be done next.
 
 import { costNote, violatedNote } from './forms/changing.js';
 import { display } from './session/display.js';
@@ -50,10 +50,10 @@ const KEYS = new Map([
   ['z', event => event.shiftKey ? redo() : undo()], ['y', () => redo()],
   ['o', () => showOpening()], ['s', () => showSaving()],
 ]);
-// A field takes back what is typed there by the same keys.
+// A field undoes typing there by the same keys.
 const OF_FIELDS = ['z', 'y'], FIELDS = 'input:not([type=checkbox])';
 
-// What cost is called is one of the names.
+// The name of the cost is one of the labels.
 const nameCost = event => {
   const cost = event.target.value.trim();
   doStep([], { labels: { ...display.labels, cost }, title: `cost is called ${cost || 'cost'}` });

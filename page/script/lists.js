@@ -38,13 +38,13 @@ const violatedEvent = (event, view) => item(() => showRow(event), eventName(even
 
 export const violatedPanel = { update: updateViolated };
 
-// The state that the reply below the steps is of.
+// The state to which the reply below the steps belongs.
 let replied = null;
 
-// The commands of a step stand here alone.
+// Only here does the page show the commands of a step.
 const commandsOf = ({ edits }) => !edits.length ? 'no command' : edits.length === 1 ? edits[0].line : `${edits[0].line} and ${edits.length - 1} more commands`;
 
-// The numbers by which commands name the chosen event and what is at it.
+// The numbers by which commands name the chosen event and its activities.
 const tellNumbers = ({ network }) => {
   const { chosen } = display, at = [...network.activities.values()].filter(({ first, last }) => first === chosen || last === chosen).slice(0, MOST_NUMBERS);
   setText(find('chosen-number'), chosen === null ? '' : `${eventName(chosen)}: event ${chosen}. ${at.map(({ number }) => `${kindOf(number)} ${number}`).join(', ')}`);
@@ -64,7 +64,7 @@ const updateLines = view => {
 
 export const stepsPanel = { update: updateLines };
 
-// A line as the program takes it: an edit is a step, and anything else is asked.
+// A line as the program accepts it: an edit is a step, and anything else a query.
 const typed = event => {
   event.preventDefault();
   const input = find('line'), line = input.value.trim();

@@ -1,4 +1,4 @@
-// Starts the page: the program first, and then the first story, or says why it cannot start. A report is read before that.
+// Starts the page: the program first, and then the first story, or reports why it cannot start. A report is read before that.
 
 import { addingPanel } from './forms/adding.js';
 import { startAltering } from './forms/altering.js';

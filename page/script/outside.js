@@ -1,4 +1,4 @@
-// What tests and measures take hold of, and what draws reports under Node: `window.Page`. No module uses it.
+// The interface for tests and measurements, and for drawing reports under Node: `window.Page`. No module uses it.
 
 import { addLabels } from './forms/adding.js';
 import { zipOf } from './files/archive.js';

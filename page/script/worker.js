@@ -1,5 +1,5 @@
-// What a Worker does, so that the page stays usable: searches, why there is no timetable, what would help, what minutes cost, and long
-// files of lines.
+// The tasks of a Worker, so that the page stays usable: searches, why there is no timetable, what would help, what minutes cost,
+// and long files of lines.
 
 import { MOST_BYTES } from './files/archive.js';
 import { boundingOf } from './search/bounding.js';
@@ -17,8 +17,8 @@ import { isSure } from './base/replies.js';
 import { openFirst, openSession } from './base/running.js';
 import { tellGains } from './search/widening.js';
 
-// The session of the network that was asked about last, by its mark; whether its search has begun; the nodes of the next step; and what
-// bounds it by parts. It stays open, so that a search that was stopped is gone on with.
+// The session of the last network, by its mark; whether its search has started; the nodes of the next step; and what bounds it by
+// parts. It stays open, so that a stopped search can be resumed.
 const NOTHING = { mark: null, session: null, isBegun: false, step: FIRST_NODES, bounding: null };
 let kept = NOTHING;
 
@@ -37,7 +37,7 @@ const close = () => {
   kept = NOTHING;
 };
 
-// The same, with a search that begins with the best timetable that is known, where it has not begun.
+// The same, with a search that starts with the best known timetable, if it has not started.
 const searchedFor = asked => {
   const session = sessionOf(asked), { best } = asked;
   if (!kept.isBegun && best && canPrime(best.times)) {
@@ -49,7 +49,7 @@ const searchedFor = asked => {
   return kept.session;
 };
 
-// What a step of at most so many nodes has come to, and how many it had.
+// The result of a step of at most this many nodes, and how many it had.
 const stepOf = (session, most, events) => {
   const nodes = Math.min(kept.step, most), from = performance.now(), found = session.search(nodes, events);
   const took = performance.now() - from, step = nodes === kept.step ? paced(nodes, took, found.goesOn) : kept.step;
@@ -57,7 +57,7 @@ const stepOf = (session, most, events) => {
   return { found, took, nodes };
 };
 
-// What was posted meanwhile is heard first.
+// Messages that arrived meanwhile are handled first.
 const hear = () => new Promise(done => { setTimeout(done); });
 
 const boundingNow = session => {
@@ -65,8 +65,8 @@ const boundingNow = session => {
   return kept.bounding;
 };
 
-// Goes on by `most` nodes, or until something else is asked. Where the program tells no bound, of a network that is too large for its
-// search by cycles, parts of it are searched for one as long as the step took.
+// Continues with `most` nodes, or until another task arrives. If the program returns no bound, because the network is too large
+// for its search by cycles, parts of it are searched for one for as long as the step took.
 const search = async (asked, tell, isLeft) => {
   const session = searchedFor(asked), { most, events } = asked;
   for (let gone = 0, isDone = false; !isDone && !isLeft();) {
@@ -81,14 +81,14 @@ const search = async (asked, tell, isLeft) => {
   }
 };
 
-// With some events held at minutes beside what holds others.
+// With some events held at minutes, in addition to their windows.
 const why = (asked, tell) => {
   const network = networkOf(asked);
   for (const [event, first] of asked.held) network.windows.set(event, { first, length: 1 });
   tell({ why: findWhy(network, { kept: new Set(asked.members), canLower: asked.canLower, violated: asked.violated }), isDone: true });
 };
 
-// What a base makes, as another one that has no lines to play.
+// The state of a base, as another one without lines.
 const play = ({ played }, tell) => {
   close();
   const { session, network, times } = openFirst(played);
@@ -96,10 +96,10 @@ const play = ({ played }, tell) => {
   tell({ base: baseOf(network, times), isDone: true });
 };
 
-// So many bytes go to a blob at once, which the browser keeps outside of the page.
+// This many bytes go to a blob at once, which the browser keeps outside of the page.
 const OF_A_BLOB = 1 << 22;
 
-// A long file in the form that is read here, and the words on that.
+// A long file in converted form, and the remarks on that.
 const convertedFile = ({ kind, blob }) => {
   const encoder = new TextEncoder(), blobs = [];
   let length = 0, waiting = 0, chunks = [];
@@ -117,10 +117,10 @@ const convertedFile = ({ kind, blob }) => {
 
 const convertFiles = ({ files }, tell) => tell({ converted: files.map(convertedFile), isDone: true });
 
-// The best timetable as the network is, and then with each of some spans wider.
+// The best timetable of the unchanged network, and then with each of some spans wider.
 const gains = (asked, tell) => tellGains(sessionOf(asked).ask('dump'), asked, tell);
 
-// The session for what leaves the network of before, without a search.
+// The session for a task that does not search the previous network.
 const sessionToLeave = asked => {
   const session = sessionOf(asked);
   kept = { ...kept, isBegun: false };
@@ -135,12 +135,12 @@ const near = (asked, tell, isLeft) => tellNearest(networkOf(asked), asked, tell,
 
 const hand = (asked, tell, isLeft) => tellRest(sessionToLeave(asked), networkOf(asked), asked, tell, { isLeft, hear });
 
-// Takes the place of a search that is stopped.
+// Replaces a search that is stopped.
 const rest = () => {};
 
 const WORK = { search, why, convert: convertFiles, play, gains, prices, near, hand, rest };
 
-// Does what was asked; `tell` is called with each answer, and `isLeft` says whether something else is asked.
+// Does a task; `tell` is called with each answer, and `isLeft` says whether another task has arrived.
 const work = async (asked, tell, isLeft) => {
   try {
     await WORK[asked.kind](asked, tell, isLeft);
@@ -150,8 +150,8 @@ const work = async (asked, tell, isLeft) => {
   }
 };
 
-// Waits for the program, and for what is asked; of what was asked before the program has started, or while something else is done, the
-// last is done then.
+// Waits for the program, and for tasks; of those that arrive before the program has started, or during another one, the last is
+// done then.
 const listen = () => {
   let waiting = null, isReady = false, isAtWork = false;
   const workOn = async () => {

@@ -1,8 +1,8 @@
-// The edits that make one network of another of the same period, and one timetable of another.
+// The edits that turn one network into another of the same period, and one timetable into another.
 
 import { activityEdit, edit, timeEdits, windowEdit } from './edits.js';
 
-// What of some keys is in one map and not in the other.
+// The entries of some keys that are in one map and not in the other.
 const missing = (from, to) => [...from.keys()].filter(key => !to.has(key));
 
 const changed = ({ number, first, last, lower, upper, weight }, now) => [
@@ -26,7 +26,7 @@ const changedTimes = (from, to, isThere) => [
   ...timeEdits([...to].filter(([event, time]) => from.get(event) !== time)),
 ];
 
-// The edits by which what is first becomes what is second, each a network with its times. No activity is without its ends at any of them.
+// The edits that turn the first into the second, each a network with its times. Every activity has both ends after each of them.
 export const editsBetween = (from, to) => {
   const known = new Set(from.network.events), wanted = new Set(to.network.events), isThere = event => wanted.has(event);
   return [

@@ -1,4 +1,4 @@
-// Domains as the module tells them: of each event a row of bytes, in which the bit of each minute is set at which it can still be.
+// Domains as the module returns them: a row of bytes for each event, with a bit for each minute at which it can still be.
 
 const minutesIn = row => {
   const minutes = [];
@@ -13,8 +13,7 @@ const isSame = (one, other, from, end) => {
   return true;
 };
 
-// What reads the domains of a session. The minutes of an event stay the same value where they are what they were, since a step
-// changes few of them.
+// Reads the domains of a session. Unchanged minutes of an event stay the same value, since a step changes few of them.
 export const domainReader = () => {
   let before = { events: null, bits: null, rows: [] };
   return (bits, events, period) => {

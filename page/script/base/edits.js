@@ -1,5 +1,5 @@
-// Edits of a network and of its working timetable as values, each made once: of which kind it is, its numbers, and the line by
-// which the program does it. No other module has the words of an edit.
+// Edits of a network and of its working timetable as values: their kind, their numbers, and their line for the program. No
+// other module has the words of edits.
 
 import { wordsOf } from './times.js';
 
@@ -10,7 +10,7 @@ const WORDS = {
 const FIRST_WORDS = [...new Set(Object.values(WORDS).map(words => words.split(' ')[0]))];
 const KINDS = new Map(Object.entries(WORDS).map(([kind, words]) => [words, kind]));
 
-// As a text it is its line.
+// Its text is its line.
 class Edit {
   constructor(kind, numbers, line) {
     this.kind = kind;
@@ -23,28 +23,28 @@ class Edit {
   }
 }
 
-// The edit of a line. It is of no kind where the line is none, as the program then replies.
+// The edit of a line. It has no kind if the line is not an edit, as the program will reply.
 export const readEdit = line => {
   const words = wordsOf(line), count = KINDS.has(words[0]) ? 1 : 2;
   return new Edit(KINDS.get(words.slice(0, count).join(' ')) || '', words.slice(count).map(word => Number(word) + 0), line);
 };
 
-// Whether a line begins as an edit does, and is for the program to do or to refuse; anything else is a question.
+// Whether a line begins like an edit, so that the program accepts or refuses it; anything else is a query.
 export const beginsEdit = line => {
   const text = line.trimStart();
   return FIRST_WORDS.some(word => text.startsWith(word));
 };
 
-// Edits, of which some may be given as their lines.
+// Edits, some of which may be given as lines.
 export const editsOf = given => given.map(each => each instanceof Edit ? each : readEdit(each));
 
-// What was typed is read as the program reads it.
+// Typed text is read as the program reads it.
 const made = (kind, given) => {
   const line = `${WORDS[kind]} ${given.join(' ')}`;
   return given.every(Number.isInteger) ? new Edit(kind, given, line) : readEdit(line);
 };
 
-/** Of each kind what makes an edit of its numbers.
+/** For each kind, a function that builds an edit from its numbers.
  * @type {Record<keyof typeof WORDS, (...numbers: any[]) => Edit>} */
 export const edit = Object.freeze(/** @type {any} */ (Object.fromEntries(Object.keys(WORDS).map(kind => [kind, (...given) => made(kind, given)]))));
 
@@ -53,5 +53,5 @@ export const windowEdit = (event, first, length) => length === 1 ? edit.fix(even
 
 export const activityEdit = ({ number, first, last, lower, upper, weight }) => edit.addActivity(number, first, last, lower, upper, weight);
 
-// Those that set these times.
+// The edits that set these times.
 export const timeEdits = times => [...times].map(([event, time]) => edit.time(event, time));

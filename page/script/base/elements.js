@@ -1,4 +1,4 @@
-// Elements of the page. Texts are set as texts alone, so nothing in a label is ever read as markup.
+// Elements of the page. Texts are always set as text, so that nothing in a label is read as markup.
 
 const SVG = 'http://www.w3.org/2000/svg';
 
@@ -11,7 +11,7 @@ const fill = (made, attributes, children) => {
   return made;
 };
 
-// An element with attributes, listeners (`onclick`, ..) and children, of which texts stay texts.
+// An element with attributes, listeners (`onclick`, ..) and children; strings become text.
 export const element = (tag, attributes = {}, ...children) => fill(document.createElement(tag), attributes, children);
 
 export const drawing = (tag, attributes = {}, ...children) => fill(document.createElementNS(SVG, tag), attributes, children);
@@ -22,8 +22,8 @@ export const find = id => document.getElementById(id);
 /** @returns {any[]} */
 export const findAll = selector => [...document.querySelectorAll(selector)];
 
-// Sets a text where it is another one, since setting costs a layout. What has a text already keeps it and gets other letters, so that
-// a browser makes nothing anew.
+// Sets a text if it differs, since setting costs a layout. An element that has a text keeps its node, so that a browser creates
+// nothing.
 export const setText = (node, text) => {
   const { firstChild } = node, isOne = firstChild && firstChild === node.lastChild && firstChild.nodeType === Node.TEXT_NODE;
   if (node.textContent === text) return;
@@ -31,7 +31,7 @@ export const setText = (node, text) => {
   else node.textContent = text;
 };
 
-// What a list says that shows just the first of many; '' where it shows all.
+// The remark of a list that shows only its first entries; '' if it shows all.
 export const elided = (count, most, what) => count <= most ? ''
   : `Elided: of ${count.toLocaleString('en')} ${what} the first ${most.toLocaleString('en')} are shown.`;
 
@@ -41,8 +41,8 @@ export const setAttribute = (node, name, value) => {
   } else if (node.getAttribute(name) !== String(value)) node.setAttribute(name, value);
 };
 
-// Makes a node what another one is, without listeners: what is the same in it stays, so that a browser does not lay it out and
-// paint it again.
+// Makes a node equal to another one, without listeners: equal parts stay, so that a browser does not lay them out and paint
+// them again.
 const renewNode = (node, wanted) => {
   if (node.isEqualNode(wanted)) return;
   if (node.nodeType !== Node.ELEMENT_NODE || node.nodeName !== wanted.nodeName) {
@@ -54,14 +54,14 @@ const renewNode = (node, wanted) => {
   renew(node, wanted.childNodes);
 };
 
-// The same for the children of a node, or those after its first ones.
+// The same for the children of a node, or those after the first ones.
 export const renew = (holder, wanted, first = 0) => {
   const before = [...holder.childNodes].slice(first), after = [...wanted];
   after.forEach((node, place) => place < before.length ? renewNode(before[place], node) : holder.append(node));
   before.slice(after.length).forEach(node => node.remove());
 };
 
-// What a screen reader says, and the line below the buttons shows; `alarm` where something was refused.
+// The message that a screen reader reads and the line below the buttons shows; `alarm` if something was refused.
 export const say = (text, isAlarm = false) => {
   const line = find('said');
   line.textContent = text;
@@ -75,28 +75,28 @@ export const tableOf = (look, heads, rows) => element('table', { class: look },
   element('thead', {}, ...(Array.isArray(heads[0]) ? heads : [heads]).map(names => element('tr', {}, ...headsOf(names)))),
   element('tbody', {}, ...rows));
 
-// A row of it: a name, and then cells, which are texts or elements.
+// A row of it: a name, followed by cells, which are texts or elements.
 export const rowOf = (name, cells, more = {}) => element('tr', more, element('th', { scope: 'row' }, name),
   ...cells.map(each => typeof each === 'object' ? each : element('td', {}, each)));
 
-// Whether keys get somewhere there; a browser takes them from what went away a little later.
+// Whether the focus is in a live element; a browser moves it from a removed element slightly later.
 const hasKeys = node => node !== document.body && !node.disabled && node.getClientRects().length > 0;
 
-// Brings the keys to an element where they are nowhere, since what had them went away.
+// Focuses an element if nothing has the focus, since the focused element was removed.
 export const lead = node => {
   if (node && !hasKeys(document.activeElement)) node.focus();
 };
 
 let readyAt = null;
 
-// Tells that there is something to be seen.
+// Reports that there is something to see.
 export const tellReady = () => {
   document.body.classList.add('ready');
   requestAnimationFrame(() => { readyAt = performance.now(); });
 };
 
-// How many milliseconds after the page was asked for that was; null before.
+// The milliseconds from the request for the page to that; null before.
 export const readyAfter = () => readyAt;
 
-// Says something more than what is said.
+// Appends to the current message.
 export const sayMore = text => say([find('said').textContent, text].filter(Boolean).join(' — '));

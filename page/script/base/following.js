@@ -1,10 +1,10 @@
-// What edits that were answered by `ok` make of a network and its times, and the edits that take them back. `dump` tells the same
-// network; it is asked where one is opened, and not at each step.
+// The effect of edits that were answered by `ok` on a network and its times, and the edits that undo them. `dump` returns the
+// same network; it is used when one is opened, and not at each step.
 
 import { activityEdit, edit, windowEdit } from './edits.js';
 import { ascending } from './times.js';
 
-// A map that is copied where it is first changed, and then ascending.
+// A map that is copied at its first change, and then sorted.
 const changing = map => {
   let copy = null, isSorted = true;
   return {
@@ -54,7 +54,7 @@ const addEvent = ({ events }, [event]) => {
   return [edit.dropEvent(event)];
 };
 
-// An event goes with its window and its time.
+// Dropping an event removes its window and its time.
 const dropEvent = ({ events, windows, times }, [event]) => {
   const window = windows.get(event), time = times.get(event);
   for (const map of [events, windows, times]) map.drop(event);
@@ -71,8 +71,8 @@ const changeOf = kind => (draft, [number, ...values]) => {
   return [edit[kind](number, ...before)];
 };
 
-// Of each kind of edit how it changes a draft, which gives the edits that take that back; what its reply may be other after it; and
-// whether it changes which events and activities there are.
+// For each kind of edit, its effect on a draft, which returns the edits that undo it; the queries whose replies it may change;
+// and whether it adds or removes events and activities.
 const OF_WINDOWS = ['domains', 'violations'], OF_TIMES = ['tensions', 'violations', 'cost'], ALL = ['domains', 'tensions', 'violations', 'cost'];
 const OF_KIND = {
   fix: { act: (draft, [event, first]) => hold(draft, event, { first, length: 1 }), asks: OF_WINDOWS },
@@ -95,8 +95,8 @@ const networkOf = ({ events, windows, activities }, before, isOfShape) => {
   return isSame ? before : { ...made, shape: isOfShape ? {} : before.shape };
 };
 
-// The network and the times after some edits, the same objects where none changes them; the edits that take them back; and
-// the questions to which they may change a reply.
+// The network and the times after some edits, the same objects if nothing changes them; the edits that undo them; and the
+// queries whose replies they may change.
 export const follow = ({ network, times }, edits) => {
   const isOfShape = edits.some(({ kind }) => OF_KIND[kind].isOfShape), { events, windows, activities } = network;
   const draft = { events: changing(isOfShape ? new Map(events.map(event => [event, true])) : new Map()), windows: changing(windows), activities: changing(activities), times: changing(times) };
@@ -104,12 +104,12 @@ export const follow = ({ network, times }, edits) => {
   return { network: networkOf(draft, network, isOfShape), times: draft.times.made(), back, questions: ALL.filter(question => asks.has(question)) };
 };
 
-// What an edit sets, which a later one sets again, whatever it was; '' where that is not so simple.
+// The property that an edit sets, whatever its value was, and a later edit sets again; '' if there is no such.
 const SETS = { fix: 'window', window: 'window', time: 'time', span: 'span', weight: 'weight', ends: 'ends' }, TAKES = { ...SETS, unfix: 'window', untime: 'time' };
 
 const cellOf = (names, { kind, numbers }) => names[kind] ? `${names[kind]} ${numbers[0]}` : '';
 
-// Those of some edits that take back what others do which are not idle before more edits.
+// Of the edits that undo others, those that still have an effect before more edits.
 export const neededBefore = (back, more) => {
   const kept = back.map(each => cellOf(TAKES, each)), set = new Set(more.map(each => cellOf(SETS, each)));
   return kept.includes('') || set.has('') ? back : back.filter((_, place) => !set.has(kept[place]));

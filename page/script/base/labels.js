@@ -9,7 +9,7 @@
 import { EVENTS, FileFault, numberIn, recordsOf } from './records.js';
 
 const WIDTHS = new Map([['event', 5], ['activity', 2]]);
-// The most letters of a name, and the most rows of either kind: more than a page can show, and than the program takes.
+// The longest name, and the most rows of either kind: more than a page can show, or the program accepts.
 const MOST_LETTERS = 1000, MOST_ROWS = 200000;
 
 export const noLabels = () => ({ events: new Map(), kinds: new Map(), cost: '' });
@@ -31,7 +31,7 @@ const checkLengths = (name, record, fields) => {
   if (place >= 0) throw new FileFault(name, record, `field ${place + 1} is longer than ${MOST_LETTERS.toLocaleString('en')} letters`);
 };
 
-// What the network calls its cost.
+// The network's name for its cost.
 const takeCost = (labels, record, fields) => {
   checkLengths('labels', record, fields);
   labels.cost = fields[1] || '';
@@ -51,7 +51,7 @@ const takeRow = (labels, table, record, fields) => {
 
 export const quoted = field => /[;"\n\r]|^[ \t#]|[ \t]$/.test(field) ? `"${field.replace(/"/g, '""')}"` : field;
 
-// The file that reads as these labels.
+// The text of a file with these labels.
 export const labelsText = labels => {
   const rows = [['event', 'line', 'to', 'station', 'kind']];
   for (const [event, label] of labels.events) rows.push([String(event), label.line, label.to, label.station, label.kind]);
@@ -63,7 +63,7 @@ export const labelsText = labels => {
 
 const MEASURE = /^[+-]?([0-9]+([.][0-9]*)?|[.][0-9]+)([eE][+-]?[0-9]+)?$/;
 
-// Where stations lie: `station; x; y`, x to the east and y to the north. Raises FileFault.
+// The places of stations: `station; x; y`, x to the east and y to the north. Raises FileFault.
 export const readPlaces = text => {
   const places = new Map();
   for (const { number, fields } of recordsOf(text, true)) {
@@ -78,6 +78,6 @@ export const readPlaces = text => {
   return places;
 };
 
-// The file that reads as these places.
+// The text of a file with these places.
 export const placesText = places => ['station; x; y', ...[...places].map(([station, [x, y]]) => `${quoted(station)}; ${x}; ${y}`)]
   .map(row => `${row}\n`).join('');

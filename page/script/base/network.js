@@ -1,8 +1,8 @@
-// A network as `dump` tells it, and the files and commands that say it again.
+// A network as `dump` returns it, and the files and commands that describe it.
 
 import { edit, readEdit, timeEdits, windowEdit } from './edits.js';
 
-// What an edit of a script adds: an event, a window or an activity, by its number.
+// The addition of an edit in a script: an event, a window or an activity, by its number.
 const ADDED = {
   addEvent: ([number]) => ({ to: 'events', number }),
   fix: ([number, first]) => ({ to: 'windows', number, value: { first, length: 1 } }),
@@ -11,7 +11,7 @@ const ADDED = {
 };
 const addedBy = ({ kind, numbers }) => ADDED[kind](numbers);
 
-// The network of a reply to `dump`. What is of the same shape has the same events and activities, between the same ends.
+// The network of a reply to `dump`. Networks of the same shape have the same events and activities, with the same ends.
 export const readNetwork = reply => {
   const network = { period: Number(reply[0].split(' ')[2]), events: [], windows: new Map(), activities: new Map(), shape: {} };
   for (const { to, number, value } of reply.slice(1).map(readEdit).map(addedBy)) {
@@ -21,7 +21,7 @@ export const readNetwork = reply => {
   return network;
 };
 
-// The components into which joined events divide all events, where none is to have more than so many.
+// The components into which joined events divide all events, split if one has more than the given number.
 export const componentsOf = (events, joins, most = Infinity) => {
   const components = new Map([...events].map(event => [event, [event]]));
   for (const { first, last } of joins) {
@@ -36,7 +36,7 @@ export const componentsOf = (events, joins, most = Infinity) => {
   return new Set(components.values());
 };
 
-// The events that some activity names.
+// The events that activities name.
 const namedEvents = network => {
   const named = new Set();
   for (const each of network.activities.values()) named.add(each.first).add(each.last);
@@ -45,7 +45,7 @@ const namedEvents = network => {
 
 export const rowsText = rows => rows.map(row => row.join('; ') + '\n').join('');
 
-// The rows of the files of a saved folder, without headers: each file has what the program reads there.
+// The rows of the files of a saved folder, without headers: the program reads each.
 export const rowsOf = (network, times) => {
   const named = namedEvents(network), fixed = [], windows = [];
   for (const [event, { first, length }] of network.windows) {
@@ -60,7 +60,7 @@ export const rowsOf = (network, times) => {
   };
 };
 
-// What a run begins with so that it has just this network and these times.
+// The first lines of a run that has exactly this network and these times.
 export const baseOf = (network, times) => {
   const rows = rowsOf(network, times), alone = new Set(rows.events.map(([event]) => event));
   return {

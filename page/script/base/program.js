@@ -1,13 +1,13 @@
-// The program in the page: whole runs over bytes, of which nothing is kept, and sessions. `PespModule` is page/module.js.
+// The program in the page: whole runs over bytes, which keep nothing, and sessions. `PespModule` is page/module.js.
 
-// How a call ends that wants memory, of which there may be more where a session is opened anew.
+// The status of a call that is out of memory; a newly opened session may have more.
 const MEMORY = [5, 6];
 const decoder = new TextDecoder();
 
-// What was compiled, and the module that was started of it; null where the last one was trapped, which is not used again.
+// The compiled module, and its running instance; null if the last one trapped, which is not used again.
 let program = null, module = null;
 
-// Starts what was compiled, here or in a Worker.
+// Starts the compiled module, here or in a Worker.
 export const startProgram = async compiled => {
   module = await PespModule.start(compiled);
   program = compiled;
@@ -35,8 +35,8 @@ export const answer = run => {
   return { output: decoder.decode(output), fault };
 };
 
-// A session of files, with a fault or '': it answers lines until it is closed, and tells searches in numbers, and domains where
-// the module does.
+// A session of files, with a fault or '': it answers lines until it is closed, returns results of searches in numbers, and
+// domains if the module does.
 export const openFiles = files => {
   const owner = moduleNow(), { session, fault } = called(owner, each => PespModule.open(each, files));
   const inSession = call => {

@@ -1,14 +1,14 @@
-// Files of the page's own (labels, places, windows, events, the period), cut into records as docs/FORMATS.md says. Each letter is
-// looked at once, whoever wrote the file.
+// The page's own files (labels, places, windows, events, the period), split into records as docs/FORMATS.md defines. Each letter
+// is read once, whoever wrote the file.
 
-// No file has so many columns. Of more fields the last with something in it is kept, so that their number stays as wrong.
+// No file has this many columns. If a record has more fields, the last nonempty one is kept, so that their number remains wrong.
 const MOST_FIELDS = 100;
 const MOST_OF_A_FIELD = 100000;
 const RETURN = 13, FEED = 10, QUOTE = 34, TAB = 9, BLANK = 32;
 
 const isBlank = code => code === BLANK || code === TAB;
 
-// A part of a text without the letters at its ends that are of some kind.
+// A part of a text without the letters of some kind at its ends.
 export const trimmed = (text, isLeft = isBlank, from = 0, to = text.length) => {
   let start = from, end = to;
   while (start < end && isLeft(text.charCodeAt(start))) start += 1;
@@ -16,7 +16,7 @@ export const trimmed = (text, isLeft = isBlank, from = 0, to = text.length) => {
   return text.slice(start, end);
 };
 
-// The place of the quote that ends a field in quotes, or the end of the text.
+// The place of the quote that ends a quoted field, or the end of the text.
 const endOfQuotes = (text, start) => {
   let place = start;
   for (; place < text.length; place += 1) {
@@ -27,8 +27,8 @@ const endOfQuotes = (text, start) => {
   return place;
 };
 
-// What stands between quotes, where each quote is written as two of them. Of more than any field may have, the beginning is kept with
-// a mark by which it is refused.
+// The text between quotes, in which two quotes mean one. If it is longer than any field may be, its beginning is kept with a mark
+// by which it is refused.
 const unquoted = (text, start, end) => {
   const isLong = end - start > MOST_OF_A_FIELD, inside = text.slice(start, isLong ? start + MOST_OF_A_FIELD : end).replace(/""/g, '"');
   return isLong ? `${inside}…` : inside;
@@ -43,7 +43,7 @@ const endOfField = (text, start, separator) => {
   return place;
 };
 
-// The fields of the record that begins at a place, and where the next one begins.
+// The fields of the record that begins at a place, and the start of the next one.
 export const recordAt = (text, start, separator) => {
   const fields = [], code = separator.charCodeAt(0);
   for (let place = start; ;) {
@@ -59,15 +59,14 @@ export const recordAt = (text, start, separator) => {
 
 const isEmpty = (text, start, next) => next <= start + (text.startsWith('\r\n', start) ? 2 : 1);
 
-// Whether a record has data, that is neither blanks alone nor a comment. What follows its last separator is no field where that is
-// empty.
+// Whether a record has data, and is neither blank nor a comment. An empty text after its last separator is not a field.
 const hasData = (fields, isQuoted = false) => {
   if (fields[fields.length - 1] === '') fields.pop();
   return fields.length > 0 && (isQuoted || !fields[0].startsWith('#'));
 };
 
-// The records that have data, one after another, each with its number. Where a first field is a name, one in quotes begins no
-// comment, whatever it begins with.
+// The records with data, one after another, each with its number. If first fields are names, a quoted one never begins a
+// comment.
 export const recordsOf = function* (text, isNamed = false) {
   const whole = text.replace(/^\uFEFF/, ''), separator = whole.includes(';') ? ';' : ',';
   let number = 0;
@@ -81,7 +80,7 @@ export const recordsOf = function* (text, isNamed = false) {
   }
 };
 
-// The fields of the records of a text that comes in parts, of as many at a time as are whole; an empty line is no record.
+// The fields of the records of a text that arrives in parts, returned as they become complete; an empty line is not a record.
 export const fieldsIn = function* (texts, separator) {
   let rest = '', least = 0, isBegun = false;
   const taken = isEnd => {
@@ -89,7 +88,7 @@ export const fieldsIn = function* (texts, separator) {
     let start = 0;
     while (start < rest.length) {
       const { fields, next } = recordAt(rest, start, separator);
-      // A line feed may still follow what ends it.
+      // A line feed may still follow.
       if (next >= rest.length && !isEnd) break;
       if (!isEmpty(rest, start, next)) found.push(fields);
       start = next;
@@ -101,13 +100,13 @@ export const fieldsIn = function* (texts, separator) {
   for (const text of texts) {
     rest += isBegun ? text : text.replace(/^\uFEFF/, '');
     isBegun = isBegun || text !== '';
-    // What is not whole is looked at again where there is twice as much of it.
+    // An incomplete record is read again once there is twice as much of it.
     if (rest.length > least) yield taken(false);
   }
   yield taken(true);
 };
 
-// The fields of rows in it that have data, but for a header.
+// The fields of its rows with data, without a header.
 export const rowsOfParts = function* (texts, separator) {
   let isFirst = true;
   for (const some of fieldsIn(texts, separator)) {
@@ -129,7 +128,7 @@ export const rowsIn = function* (text) {
   }
 };
 
-// What a file of the page's own is not.
+// The faults of the page's own files.
 export class FileFault extends Error {
   constructor(name, record, what) {
     super(`${name} file, record ${record}: ${what}`);
@@ -142,10 +141,10 @@ export const EVENTS = [0, 999999999];
 /** @type {[number, number]} */
 export const RESIDUES = [0, 65535];
 
-// The program takes no more at any period.
+// The program accepts no more at any period.
 const MOST_EVENTS = 20000;
 
-// The number that a field has, in limits. Raises FileFault.
+// The number in a field, within limits. Raises FileFault.
 export const numberIn = (name, record, place, text, [least, most]) => {
   if (!/^[+-]?[0-9]+$/.test(text)) throw new FileFault(name, record, `field ${place} is not a number`);
   const value = Number(text) + 0;

@@ -1,6 +1,6 @@
-// Replies of the program, cut and read as docs/FORMATS.md says. Nothing is worked out from them here.
+// Replies of the program, parsed as docs/FORMATS.md defines. Nothing is computed from them here.
 
-// The word of a reply's first line that says how many lines follow.
+// The word of a reply's first line that gives the number of lines that follow.
 const COUNTS = { domains: 1, tensions: 1, violations: 1, optimum: 2, stopped: 2, '#': 4 };
 
 // The replies of a text, each as the list of its lines.
@@ -15,13 +15,13 @@ export const splitReplies = text => {
   return replies;
 };
 
-// The lines of a text, each of which ends by a line feed.
+// The lines of a text, each of which ends with a line feed.
 export const linesOfReply = text => text.slice(0, -1).split('\n');
 
 export const isRefused = reply => /^(refused|fault) /.test(reply[0]);
 
-// What the lines after a first line say, each by its number, read by a function. Lines that are told again in their order are
-// what they were, the same values, since a step changes few of them; and so is a reply as a whole.
+// The contents of the lines after a first line, each by its number, read by a function. Unchanged lines keep their values,
+// since a step changes few of them; and so does an unchanged reply.
 /** @param {function(string): any} read */
 const remembered = read => {
   let before = [], values = [], made = null;
@@ -30,11 +30,11 @@ const remembered = read => {
     const found = [];
     for (let place = 1, old = 1; place < reply.length; place += 1) {
       const line = reply[place];
-      // A line of before is gone.
+      // A previous line was removed.
       if (line !== before[old] && line === before[old + 1]) old += 1;
       if (line === before[old]) found.push(values[old - 1]);
       else found.push(read(line));
-      // Where a line came between two that were there, the one of before is still to come.
+      // If a line was inserted between two previous ones, the previous one still follows.
       if (line === before[old] || reply[place + 1] !== before[old]) old += 1;
     }
     before = reply;
@@ -46,7 +46,7 @@ const remembered = read => {
 
 const numbersOf = text => text.split(' ').map(Number);
 
-// Of each event the minutes at which it can still be.
+// For each event the minutes at which it can still be.
 export const readDomains = remembered(line => {
   const end = line.indexOf(':');
   return [Number(line.slice(0, end)), line.length > end + 2 ? numbersOf(line.slice(end + 2)) : []];
@@ -57,10 +57,10 @@ const tensionLines = remembered(line => {
   return [activity, { tension, slack }];
 });
 
-// Of each activity its tension and slack; null where the working timetable lacks a time.
+// For each activity its tension and slack; null if the working timetable lacks a time.
 export const readTensions = reply => isRefused(reply) ? null : tensionLines(reply);
 
-// The violated activities and events; null where a time is missing.
+// The violated activities and events; null if a time is missing.
 export const readViolations = reply => {
   if (isRefused(reply)) return null;
   const found = { activities: new Set(), events: new Set() };
@@ -71,12 +71,12 @@ export const readViolations = reply => {
   return found;
 };
 
-// A cost is a number, and a BigInt above those that a number tells exactly.
+// A cost is a number, or a BigInt if it is too large for an exact number.
 export const exactly = text => Number.isSafeInteger(Number(text)) ? Number(text) : BigInt(text);
 
 export const readCost = reply => isRefused(reply) ? null : exactly(reply[0].split(' ')[1]);
 
-// What a search answers: `optimum`, `infeasible`, `stopped`, or `none` where it stopped without a timetable.
+// The reply to a search: `optimum`, `infeasible`, `stopped`, or `none` if it stopped without a timetable.
 export const readFound = reply => {
   const words = reply[0].split(' ');
   if (words[0] === 'infeasible') return { kind: 'infeasible' };
@@ -84,10 +84,10 @@ export const readFound = reply => {
   return { kind: words[0], cost: exactly(words[1]), times: new Map(reply.slice(1).map(numbersOf)) };
 };
 
-// The same by the number of its state, as embedded/pespbench.h has them.
+// The same by the number of its state in embedded/pespbench.h.
 const STATES = ['none', 'stopped', 'optimum', 'infeasible'];
 
-// The same of a search that is told in numbers, with a bound below which no timetable costs, and whether the next call goes on with it.
+// The same for a search whose result is in numbers, with a lower bound of all costs, and whether the next call resumes it.
 export const foundIn = ({ state, cost, lowerBound, goesOn, times }, events) => {
   const kind = STATES[state], bound = exactly(String(lowerBound));
   if (kind === 'infeasible') return { kind };
@@ -95,5 +95,5 @@ export const foundIn = ({ state, cost, lowerBound, goesOn, times }, events) => {
   return { kind, bound, goesOn, cost: exactly(String(cost)), times: new Map(events.map((event, place) => [event, times[place]])) };
 };
 
-// Whether a search has come to its end.
+// Whether a search has ended.
 export const isSure = ({ kind }) => kind === 'optimum' || kind === 'infeasible';

@@ -1,5 +1,5 @@
-// What the program tells: of sessions, which stay open over a base, that is files and the lines after them; and of whole runs,
-// where each question is about another network.
+// Communication with the program: sessions, which stay open over a base (files and the lines after them); and whole runs, each
+// over another network.
 
 import { domainReader } from './domains.js';
 import { readEdit, timeEdits } from './edits.js';
@@ -11,8 +11,8 @@ import {
 } from './replies.js';
 import { isAdopt, timesOfFile } from './times.js';
 
-// A run or a session that ended by a fault; its message is the program's text. `isWanting` where memory is wanted; `refused` has a line
-// that was refused, with the reply and perhaps the network.
+// A run or a session that ended with a fault; its message is the program's text. `isWanting` if it is out of memory; `refused`
+// has a line that was refused, with the reply and perhaps the network.
 export class RunFault extends Error {
   constructor(message, isWanting = false, refused = null) {
     super(message);
@@ -31,20 +31,21 @@ export const run = (base, lines) => {
   return replies.slice(base.setup.length);
 };
 
-// Raises RunFault where a line was refused.
+// Raises RunFault if a line was refused.
 const isDone = (line, reply, network = null) => {
   if (reply[0] !== 'ok') throw new RunFault(`${line}: ${reply[0]}`, false, { line, reply: reply[0], network });
 };
 
-/** What a session tells, where it is no fault.
+/** The result of a call on a session, unless it is a fault.
  * @returns {any} */
 const withoutFault = ({ fault, isWanting, ...reply }) => {
   if (fault) throw new RunFault(fault, isWanting);
   return reply;
 };
 
-// A session of the files of a base. `ask` gives the reply to a line, and the same one where it is told again; `domains` those of a
-// network; `search` what its search has come to after so many nodes more, its times by some events, with a bound. Raises RunFault.
+// A session of the files of a base. `ask` returns the reply to a line, the same value if it is unchanged; `domains` those of a
+// network; `search` the result of a search with this many more nodes, its times by the given events, with a bound. Raises
+// RunFault.
 const sessionOf = base => {
   const { fault, ask: askText, domains, search, close } = openFiles(base), known = new Map(), read = domainReader();
   if (fault) throw new RunFault(fault);
@@ -62,7 +63,7 @@ const sessionOf = base => {
   };
 };
 
-// What comes of something that is done with a session, which is closed where that fails.
+// The result of a use of a session, which is closed if that fails.
 export const prepared = (session, act) => {
   try {
     return act();
@@ -72,10 +73,10 @@ export const prepared = (session, act) => {
   }
 };
 
-// Has a session do some lines. Raises RunFault.
+// Sends some lines to a session. Raises RunFault.
 export const does = (session, lines) => lines.forEach(line => isDone(line, session.ask(line)));
 
-// A session after some lines, which are those of a base, or of it and of steps since. Raises RunFault.
+// A session after some lines, which are those of a base, or also of later steps. Raises RunFault.
 export const openSession = (base, lines = base.setup) => {
   const session = sessionOf(base);
   prepared(session, () => does(session, lines));
@@ -94,11 +95,11 @@ const READ = {
   },
 };
 
-// What a session tells of its network and its timetable, of all of it or of some questions.
+// The replies of a session about its network and its timetable, to all queries or some.
 export const look = (session, network, questions = QUESTIONS) => Object.assign({}, ...questions.map(question => READ[question](session, network)));
 
-// A session of a base that was never looked at, with its network and its times. An `adopt` comes after an `optimum`, whose
-// reply has the times; the program searches once for both. Raises RunFault.
+// A new session of a base, with its network and its times. An `adopt` comes after an `optimum`, whose reply has the times;
+// the program searches once for both. Raises RunFault.
 export const openFirst = base => {
   const session = sessionOf(base), networkNow = () => readNetwork(session.ask('dump'));
   return prepared(session, () => {
@@ -109,7 +110,8 @@ export const openFirst = base => {
   });
 };
 
-// Has a session do a line, and gives the edits that make the same of its network and times. Raises RunFault, with the network then.
+// Sends a line to a session, and returns the edits with the same effect on its network and times. Raises RunFault, with the
+// network then.
 const doneFirst = (session, line, networkNow) => {
   const found = isAdopt(line) ? readFound(session.ask('optimum')) : null, reply = session.ask(line);
   isDone(line, reply, reply[0] === 'ok' ? null : networkNow());

@@ -1,8 +1,8 @@
-// What a timetable has where some events have no time, of which the program tells nothing then.
+// The values of a timetable in which some events have no time, on which the program does not reply.
 
 import { exactly } from './replies.js';
 
-// The tensions and slacks of the activities between events with times, what is violated of them, and what they cost, by docs/RULES.md.
+// The tensions and slacks of the activities between events with times, their violations, and their cost, by docs/RULES.md.
 export const ofTimed = ({ network: { activities, windows, period }, times }) => {
   const tensions = new Map(), violated = new Set(), from = (start, minute) => (((minute - start) % period) + period) % period;
   let cost = 0n;
@@ -17,7 +17,7 @@ export const ofTimed = ({ network: { activities, windows, period }, times }) => 
   return { tensions, violations: { activities: violated, events: new Set(outside.map(([event]) => event)) }, cost: exactly(String(cost)) };
 };
 
-// How many events have no time, in words; '' where all have one.
+// How many events have no time, in words; '' if all have one.
 export const untimedText = ({ network: { events }, times }) => {
   const count = events.length - times.size;
   return count ? `${count.toLocaleString('en')} ${count === 1 ? 'event has' : 'events have'} no time` : '';

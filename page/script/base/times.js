@@ -1,5 +1,5 @@
-// The times of the working timetable, by event and ascending. No reply tells them as such, so they are followed: those of the
-// file of times, and then what each line makes of them that was answered by `ok` (following.js).
+// The times of the working timetable, by event and ascending. No reply returns them, so they are tracked: those of the file
+// of times, changed by each line that was answered by `ok` (following.js).
 
 import { rowsIn } from './records.js';
 
@@ -10,7 +10,7 @@ export const isAdopt = line => wordsOf(line)[0] === 'adopt';
 // A map by number, ascending.
 export const ascending = map => new Map([...map].sort(([one], [other]) => one - other));
 
-// The times that the file of times gives to the events that are there when it is read.
+// The times in the file of times for the events that exist when it is read.
 export const timesOfFile = ({ times, period }, events) => {
   const known = new Set(events), found = new Map();
   for (const { fields } of rowsIn(times)) {

@@ -2,8 +2,8 @@
 
 import { programNow } from './program.js';
 
-// Starts one, whose answers and faults are heard. It has the modules of worker.js, which tools/page puts into a script of their own, the
-// program's caller and the program.
+// Starts one, with a listener for its answers and faults. It has the modules of worker.js, which tools/page combines in a script
+// of their own, the caller of the program and the program.
 export const startWorker = hear => {
   const modules = document.querySelector('script[data-modules=worker]').textContent;
   const text = new Blob(["'use strict';\n", PespModule.text, modules], { type: 'text/javascript' }), address = URL.createObjectURL(text);
@@ -15,8 +15,8 @@ export const startWorker = hear => {
   return worker;
 };
 
-// One that is started where it is first asked something. Of what is asked while another thing is, that is left at its next step, and
-// nothing of it is heard any more.
+// A Worker that starts at its first question. A new question ends the previous one at its next step, and no later answer to that
+// is heard.
 export const soleWorker = () => {
   let worker = null, asked = null;
   const hear = answer => {

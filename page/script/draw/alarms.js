@@ -1,5 +1,5 @@
-// What is violated in a netgraph: the way of a run and the ring of a station in red, with the minutes had and wanted where no other
-// red text lies, and else with a mark.
+// The violations in a netgraph: the path of a run and the ring of a station in red, with the actual and required minutes if no
+// other red text is there, and otherwise with a mark.
 
 import { isApart, PARTS, spotsOf } from './apart.js';
 import { conflictsOf, detailsOf, shortConflicts } from '../session/conflicts.js';
@@ -8,10 +8,10 @@ import { labelOf } from '../session/names.js';
 
 const LETTER = 8, MARK = '✕', UPRIGHT = { origin: [0, 0], turn: 0 };
 
-// What is red where something is violated, and its label, in a frame that may be turned.
+// The red mark of a violation, and its label, in a frame that may be rotated.
 export const makeAlarm = (shape, place, frame = UPRIGHT) => ({ shape, label: drawing('text', { class: 'broken', ...place }), place, frame, drawn: '' });
 
-// A label of a station lies within the drawing. Its length is about so much: to ask for it costs a layout.
+// A label of a station is within the drawing. Its length is an estimate: measuring costs a layout.
 const fitting = ({ label, place, frame }, length) => {
   if (frame !== UPRIGHT) return place;
   const { x, width } = label.ownerSVGElement.viewBox.baseVal, before = length * PARTS[place['text-anchor']];
@@ -30,7 +30,8 @@ const draw = (alarm, conflicts, taken) => {
   setAttribute(label, 'x', text === whole ? place.x : alarm.place.x);
 };
 
-// Draws what is new of alarms, of the lines of tracks by the events that leave on them, and of stations; `drawn` are those that are red.
+// Draws the changes of alarms, of the lines of tracks by the events that leave on them, and of stations; `drawn` are those in
+// red.
 export const drawAlarms = (view, { trackLines, stations, drawn }) => {
   const found = new Map([...drawn].map(alarm => [alarm, []])), taken = [];
   drawn.clear();

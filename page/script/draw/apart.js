@@ -1,9 +1,9 @@
-// Where things lie in a drawing: texts, which may be turned, and what lies beside a way.
+// The places of things in a drawing: texts, which may be rotated, and points beside a path.
 
-// What of its length lies before the place of a text.
+// The share of its length that is before the anchor of a text.
 export const PARTS = { start: 0, middle: 0.5, end: 1 };
 
-// How far apart the spots are at which a text is looked for, and how near to it no other text may be.
+// The distance between the spots that are tried for a text, and the least distance to another text.
 const EVERY = 6, NEAR = 12;
 
 // Spots along a text of some length, from its first letter to its last, in a frame with its origin and turn.
@@ -15,7 +15,7 @@ export const spotsOf = ({ x, y, 'text-anchor': anchor }, { origin, turn }, lengt
 
 export const isApart = (spots, taken) => !spots.some(([x, y]) => taken.some(other => Math.hypot(x - other[0], y - other[1]) < NEAR));
 
-/** The distance of a spot from the straight way between two places.
+/** The distance of a spot from the straight line between two places.
  * @param {number[]} spot
  * @param {number[]} start
  * @param {number[]} end */

@@ -1,4 +1,4 @@
-// A line of two variants in one drawing and one table, and the connections that take other times in them.
+// A line of two variants in one drawing and one table, and the connections whose times differ.
 
 import { isAlarming } from '../session/conflicts.js';
 import { connectionsOf, takesText } from './connections.js';
@@ -15,7 +15,7 @@ const LOOKS = [{ width: 1.8, dashes: '5 4' }, { width: 2.6, dashes: null }], MOS
 
 const lineIn = (view, name) => view.lines.find(line => line.name === name);
 
-// The trains of a side on the stations of a drawing, with what it violates there; its name stands before what is wanted.
+// The trains of a variant on the stations of a drawing, with their violations; the variant's name precedes the required minutes.
 const drawSide = (view, frame, line, name, look) => within(view, () => {
   const known = new Set(frame.heights.keys()), trains = line ? line.trains.flatMap(train => piecesOf(train, known)) : [];
   const here = { ...frame, events: new Set(trains.flatMap(train => train.events)) };
@@ -28,7 +28,7 @@ const drawSide = (view, frame, line, name, look) => within(view, () => {
   return { paths: [...paths, ...broken], labels };
 });
 
-// A line of both sides, each { name, view }, in one drawing: the first dashed, the second whole; null where it has no way.
+// A line of both variants, each { name, view }, in one drawing: the first dashed, the second solid; null if it has no path.
 export const besideDiagram = (sides, name) => {
   const lines = sides.map(({ view }) => lineIn(view, name)), [longest] = lines.filter(Boolean).sort((one, other) => other.stations.length - one.stations.length);
   const of = sides[lines.indexOf(longest)].view;
@@ -43,7 +43,7 @@ export const besideDiagram = (sides, name) => {
   return page;
 };
 
-// The minute of an event in both sides: once where it is the same.
+// The minute of an event in both variants: once if it is the same.
 const minuteIn = ({ view }, event) => event === null || !view.domains.has(event) ? '' : within(view, () => minuteText(view, event));
 
 const cell = (sides, event, look) => {
@@ -54,7 +54,7 @@ const cell = (sides, event, look) => {
   return element('td', { class: names, 'data-event': event }, ...texts);
 };
 
-// The trains of a line in both sides; one that both have, by its first event, stands there once.
+// The trains of a line in both variants; one that both have, by its first event, is there once.
 const trainsOf = lines => {
   const [before, after] = lines.map(line => line ? line.trains : []), known = new Set(after.map(({ events }) => events[0]));
   return [...after, ...before.filter(({ events }) => !known.has(events[0]))];
@@ -72,7 +72,7 @@ export const besideTable = (sides, name) => {
   return tableOf('times', [['', ...heads], ['Station', ...kinds]], rows);
 };
 
-// Of each connection what it takes in a side, '' where it is not there.
+// For each connection its minutes in a variant, '' if it does not exist there.
 const takesIn = ({ view }) => within(view, () => new Map(connectionsOf(view).map(each => [each.number, { each, ...takesText(view, each) }])));
 
 const NONE = { text: '', isViolated: false };
@@ -85,7 +85,7 @@ const connectionRow = (sides, taken, number) => {
   return rowOf(station, [from, to, ...cells, more], { 'data-event': each.first });
 };
 
-// The connections that take other times, and how many take the same.
+// The connections whose minutes differ, and how many are equal.
 export const besideConnections = sides => {
   const taken = sides.map(takesIn), numbers = [...new Set(taken.flatMap(each => [...each.keys()]))];
   const isOther = number => (taken[0].get(number) || NONE).text !== (taken[1].get(number) || NONE).text, other = numbers.filter(isOther);

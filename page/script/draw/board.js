@@ -1,4 +1,4 @@
-// A station's board: its arrivals and departures round the face of a clock and as a list, and its connections as a matrix.
+// A station's board: its arrivals and departures around a clock face and as a list, and its connections as a matrix.
 
 import { isAlarming } from '../session/conflicts.js';
 import { connectionsOf, takesText } from './connections.js';
@@ -24,13 +24,13 @@ const colorOf = ({ lines }, event) => {
 
 const look = (view, event) => ({ class: isAlarming(view, event) ? 'alarm' : null, 'data-event': event });
 
-// Where something lies on the face, so far from its middle.
+// The place of something on the face, at a distance from its middle.
 const placeOf = (period, minute, radius) => {
   const turn = 2 * Math.PI * minute / period;
   return { x: Number((Math.sin(turn) * radius).toFixed(1)), y: Number((-Math.cos(turn) * radius).toFixed(1)) };
 };
 
-// A train on the face, as far out or in as no other one is near; to the left and right its text is beside the ring, and not on it.
+// A train on the face, moved out or in until no other one is near; to the left and right its text is beside the ring, not on it.
 const handOf = (view, event, taken) => {
   const { period } = view.network, time = view.times.get(event), side = isArrival(event) ? -1 : 1;
   const places = [...Array(LEVELS).keys()].map(level => placeOf(period, time, RING + side * ROW * (1 + level * 0.9)));
@@ -55,7 +55,7 @@ const faceOf = (view, station, events) => {
     drawing('circle', { class: 'ring', r: RING }), ...marks, ...middle, ...timed.map(event => handOf(view, event, taken)));
 };
 
-// Where a train comes from, or goes next.
+// The previous or the next station of a train.
 const besideOf = event => {
   const { train, place } = trainAt(event) || { train: { events: [] }, place: 0 };
   return labelOf(train.events[place + (isArrival(event) ? -1 : 1)]).station;
@@ -64,7 +64,7 @@ const besideOf = event => {
 const listOf = (view, events) => tableOf('times', ['', '', 'train', 'from, or next'], events.slice(0, MOST_ROWS).map(event => rowOf(minuteText(view, event),
   [isArrival(event) ? 'arr.' : 'dep.', trainName(labelOf(event)), besideOf(event)], look(view, event))));
 
-// The minutes of a connection with those that it may take, or just what lies between two trains.
+// The minutes of a connection with those that are allowed, or only those between two trains.
 const cellOf = (view, arrival, departure, found) => {
   const each = found.find(({ first, last }) => first === arrival && last === departure);
   if (each) {

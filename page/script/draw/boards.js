@@ -9,7 +9,7 @@ import { matches } from './finding.js';
 import { labelOf } from '../session/names.js';
 import { isTab, showTab } from '../session/tabs.js';
 
-// The station that is shown, and that whose name was clicked last.
+// The station shown, and the one whose name was clicked last.
 let chosen = '', clicked = '';
 
 const showBoard = station => {
@@ -20,7 +20,7 @@ const showBoard = station => {
 
 const showBoardHere = () => showBoard(labelOf(display.chosen).station);
 
-// The station whose name something is; '' where it is none.
+// The station with this name; '' if there is none.
 const namedBy = node => {
   const named = node.closest('[data-station]'), row = node.closest('[data-row] > .name');
   return named ? named.dataset.station : row ? labelOf(Number(row.parentElement.dataset.row)).station : '';
@@ -38,7 +38,7 @@ export const boardsPanel = {
 export const startBoards = () => {
   fillFinder(find('board-station'), { label: 'Station', hint: 'a name', search: text => matches(text, ['station']), take: ({ value }) => showBoard(value) });
   find('to-board').addEventListener('click', showBoardHere);
-  // A first click may move what is drawn.
+  // A first click may move the drawing.
   document.addEventListener('click', ({ detail, target }) => { if (detail < 2) clicked = namedBy(target); }, true);
   document.addEventListener('dblclick', () => showBoard(clicked));
   window.addEventListener('keydown', ({ key, ctrlKey, metaKey, altKey, target }) => {

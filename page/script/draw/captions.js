@@ -1,18 +1,18 @@
-// Where the names of stations stand on a netgraph.
+// The places of station names on a netgraph.
 
 import { beside } from './apart.js';
 
-// How high a name is, how many letters it has at most, how far apart the lines of a track are, the room that is enough, and how far from
-// its ring a name can take some.
+// The height of a name, its most letters, the distance between the lines of a track, the room that is enough, and the distance
+// from its ring within which something takes its room.
 export const NAME = 14.5;
 export const LETTERS = 24;
 export const LINE_STEP = 29;
 const ENOUGH = 16, FAR = 0.7 * NAME * LETTERS + 3 * NAME + ENOUGH;
 
-// How far a name has to be from the middle of a track.
+// The least distance of a name from the middle of a track.
 const halfOf = track => (track.trackLines.length - 1) * LINE_STEP / 2 + NAME;
 
-// What lies so near to a station that it can take room of its name.
+// The things near a station that may take the room of its name.
 const aboutOf = ({ places, radius, tracks }, station) => {
   const here = places.get(station), reach = radius.get(station) + FAR;
   return {
@@ -21,7 +21,7 @@ const aboutOf = ({ places, radius, tracks }, station) => {
   };
 };
 
-// The place of a name round its ring at which most room is left, of those that read as well the first.
+// The place of a name around its ring with the most room; among equally readable ones the first.
 export const labelPlace = (graph, station) => {
   const [x, y] = graph.places.get(station), reach = graph.radius.get(station) + 6, about = aboutOf(graph, station);
   let best = null;
@@ -35,7 +35,7 @@ export const labelPlace = (graph, station) => {
   return best;
 };
 
-// The least distance of a name from what lies about it, up to what is enough.
+// The least distance of a name from its surroundings, up to what is enough.
 const roomOf = (graph, station, { x, base, anchor }, { tracks, places }) => {
   const [left, right] = spanOfName(station, x, anchor);
   const spots = [0, 1, 2, 3, 4].flatMap(quarter => [0, 0.7].map(height => [left + (right - left) * quarter / 4, base - NAME * height]));
@@ -51,7 +51,7 @@ const roomOf = (graph, station, { x, base, anchor }, { tracks, places }) => {
   return room;
 };
 
-// About where the name of a station begins and ends, from the place of its anchor.
+// Approximately where the name of a station begins and ends, from its anchor.
 export const spanOfName = (name, x, anchor) => {
   const width = 0.7 * NAME * Math.min(LETTERS, name.length), left = x - width * { start: 0, middle: 0.5, end: 1 }[anchor];
   return [left, left + width];

@@ -1,4 +1,4 @@
-// What is drawn in a view is chosen by a click there, and by keys: ↑ ↓ go to other events, ← → move the train of the chosen one.
+// Things drawn in a view are chosen by a click there, and by keys: ↑ ↓ go to other events, ← → move the train of the chosen one.
 
 import { conflictsAt, shortConflicts } from '../session/conflicts.js';
 import { display } from '../session/display.js';
@@ -14,13 +14,13 @@ import { unfold } from '../forms/unfolding.js';
 
 const DIAGRAMS = ['diagram', 'corridor'], VIEWS = [...DIAGRAMS, 'netgraph', 'board', 'tables'];
 
-// An event at a station: that after the chosen one, so that further clicks go round.
+// An event at a station: the one after the chosen one, so that further clicks cycle through them.
 const eventAt = station => {
   const events = display.view.trains.flatMap(train => train.events).filter(event => labelOf(event).station === station);
   return events[(events.indexOf(display.chosen) + 1) % events.length];
 };
 
-// Of the two ends of a piece of a way the one that a pointer is nearer to.
+// The end of a piece of a path that is nearer to a pointer.
 const nearerEnd = (piece, { clientX, clientY }) => {
   const matrix = piece.getScreenCTM(), [first, last] = [0, piece.getTotalLength()].map(at => {
     const { x, y } = piece.getPointAtLength(at).matrixTransform(matrix);
@@ -29,14 +29,14 @@ const nearerEnd = (piece, { clientX, clientY }) => {
   return Number(first <= last ? piece.dataset.event : piece.dataset.next);
 };
 
-// From here on means on a run from its departure, and in a dwell from the departure after it.
+// On a run "from here on" begins at its departure, and in a dwell at the departure after it.
 const beginsHere = ({ dataset: { event, next } }) => Number(labelOf(Number(event)).kind === 'departure' ? event : next);
 
 const begin = event => {
   const piece = event.target.closest('.reach'), holder = event.currentTarget;
   if (!piece || event.button !== 0) return;
   const isFromHere = wantsFromHere(event), here = isFromHere ? beginsHere(piece) : nearerEnd(piece, event);
-  // What is touched is drawn anew at each step, and a finger is followed on what stays.
+  // A touched element is drawn again at each step, so a finger is followed on an element that stays.
   if (event.isTrusted) holder.setPointerCapture(event.pointerId);
   if (!isFinger(event)) {
     event.preventDefault();
@@ -45,13 +45,13 @@ const begin = event => {
   beginMove(event, here, minutesOn(holder.firstElementChild).width / minutesOfDiagram().count, isFromHere);
 };
 
-// Chooses an event, and brings the keys to the view.
+// Chooses an event, and focuses the view.
 const lead = (holder, event) => {
   bringRow(event, true);
   holder.focus({ preventScroll: true });
 };
 
-// What a click is on; of a finger, which is followed on the view, what lies below it.
+// The target of a click; for a finger, which is followed on the view, the element below it.
 const clickedOn = event => isFinger(event) ? document.elementFromPoint(event.clientX, event.clientY) : event.target;
 
 const clicked = event => {
@@ -77,7 +77,7 @@ const typed = event => {
   if (cell) cell.scrollIntoView({ block: 'nearest', inline: 'nearest' });
 };
 
-// Tells a screen reader of the chosen event in a view.
+// Announces the chosen event in a view to a screen reader.
 const tell = (holder, view) => {
   const event = display.chosen, time = view.times.get(event), broken = shortConflicts(conflictsAt(view, event));
   const name = event === null ? 'no event' : `the train of ${eventName(event)}`;

@@ -1,4 +1,4 @@
-// Connections by station, for paper: which train passengers come from, into which they change, and how long that takes.
+// Connections by station, for paper: from which train to which passengers change, and how long that takes.
 
 import { display } from '../session/display.js';
 import { element, elided, rowOf, tableOf } from '../base/elements.js';
@@ -12,7 +12,7 @@ const HEADS = ['from', 'arrives', 'into', 'leaves', 'takes', 'may take'];
 const isConnection = ({ number, first, last }) => {
   const [from, to] = [labelOf(first), labelOf(last)], kind = display.labels.kinds.get(number) || '';
   const isChange = from.kind === 'arrival' && to.kind === 'departure' && from.station !== '' && from.station === to.station;
-  // Without a kind, a train of the same line turns.
+  // Activities without a kind between trains of the same line are turnarounds.
   return isChange && !NO_CONNECTIONS.includes(kind) && (from.line !== to.line || (kind !== '' && from.to !== to.to));
 };
 
@@ -24,7 +24,7 @@ export const connectionsOf = view => {
   return found.sort((one, other) => byName(one, other) || at(one) - at(other) || one.number - other.number);
 };
 
-// The minutes that a connection takes, and their text; nothing is known of them where a time is missing.
+// The minutes of a connection, and their text; unknown if a time is missing.
 export const takesText = (view, { number }) => {
   if (!view.tensions || !view.tensions.has(number)) return { text: '–', isViolated: false };
   const had = minutesHad(view, number), isViolated = view.violations.activities.has(number);
@@ -41,7 +41,7 @@ const row = (view, each) => {
 const stationTable = (view, station, rows) => element('section', { class: 'station' }, element('h3', {}, station),
   tableOf('times', HEADS, rows.map(each => row(view, each))));
 
-// The connections of some lines as they are printed; nothing where there are none.
+// The connections of some lines, for printing; nothing if there are none.
 export const connectionTables = (view, lines = view.lines) => {
   const names = new Set(lines.map(({ name }) => name)), isOf = event => names.has(labelOf(event).line), stations = new Map();
   const all = connectionsOf(view).filter(({ first, last }) => isOf(first) || isOf(last));

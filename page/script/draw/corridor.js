@@ -1,4 +1,4 @@
-// The corridor: stations that were chosen, and those on the shortest routes between them.
+// The corridor: chosen stations, and those on the shortest routes between them.
 
 import { display } from '../session/display.js';
 import { say } from '../base/elements.js';
@@ -7,14 +7,14 @@ import { redraw } from '../session/session.js';
 
 let kept = { chosen: [], stations: [], gaps: [] };
 
-// The same, to be read: those that were chosen, all of them, and the pairs between which no way leads on.
+// The same, read-only: the chosen ones, all of them, and the pairs without a route between them.
 export const corridor = Object.freeze({
   get chosen() { return kept.chosen; },
   get stations() { return kept.stations; },
   get gaps() { return kept.gaps; },
 });
 
-// The routes from each chosen station to the next one; a station stands there once. Where no way leads on, there is a gap.
+// The routes from each chosen station to the next one; a station is there once. Without a route there is a gap.
 const follow = (chosen, neighbours) => {
   const stations = chosen.slice(0, 1), gaps = [];
   chosen.slice(1).forEach((station, place) => {
@@ -30,7 +30,7 @@ const set = chosen => {
   kept = { chosen, ...follow(chosen, chosen.length > 1 && neighboursOf(display.view)) };
 };
 
-// Takes a station in at the end to which its way is shorter.
+// Adds a station at the end to which its route is shorter.
 const added = station => {
   const { chosen } = kept, neighbours = neighboursOf(display.view);
   const minutes = [chosen[0], chosen[chosen.length - 1]].map(end => {
@@ -46,7 +46,7 @@ export const chooseCorridor = chosen => {
   redraw();
 };
 
-// Takes a station in, or one that was chosen out.
+// Adds a station, or removes a chosen one.
 export const switchStation = station => {
   const { chosen, stations } = kept;
   if (chosen.includes(station)) chooseCorridor(chosen.filter(each => each !== station));
@@ -54,7 +54,7 @@ export const switchStation = station => {
   else chooseCorridor(added(station));
 };
 
-// In another network the stations stay that are there too.
+// In another network the stations that exist there too stay.
 export const corridorPanel = {
   build: view => {
     const known = new Set(view.lines.flatMap(line => line.stations));

@@ -1,5 +1,5 @@
-// The distance-time diagram of a line: minutes across, stations down, as far apart as trains need at least. The marks along
-// a station are the minutes at which its events can still be.
+// The distance-time diagram of a line: minutes across, stations down, as far apart as the least minutes of trains between
+// them. The marks along a station are the minutes at which its events can still be.
 
 import { display } from '../session/display.js';
 import { drawing, element, elided, find, renew, setAttribute, setText } from '../base/elements.js';
@@ -18,28 +18,28 @@ import { isForward, timedPieces } from '../session/trains.js';
 import { minutesHad } from '../base/viewing.js';
 
 const TURNS = ['', 'turn', 'turnaround'], MOST_TURNS = 200, MOST_OTHERS = 2000;
-// What is drawn among the stations, from below upwards.
+// The layers among the stations, from bottom to top.
 const AMONG = ['possible', 'others', 'turns', 'old', 'paths', 'broken', 'reaches'];
 
 // The drawing on the screen.
 let kept = null;
 
-// A drawing with nothing in it yet. Its `scene` is what steps leave as it is, for the most part.
+// An empty drawing. Most steps leave its `scene` unchanged.
 const emptySheet = () => {
   const layers = Object.fromEntries(['grid', ...AMONG, 'ends'].map(name => [name, makeLayer()]));
   const clip = drawing('svg', {}, ...AMONG.map(name => layers[name].node)), page = drawing('svg', {}, layers.grid.node, clip, layers.ends.node);
   return { page, clip, layers, scene: null, fixed: page.childNodes.length };
 };
 
-// Where the minutes and stations of a line lie, its trains that wait there, and those of other lines.
+// The places of the minutes and stations of a line, its trains that wait there, and those of other lines.
 const sceneOf = (view, line, before, size) => {
   const of = [line, view.lines, display.labels, view.network.activities, view.network.period, size];
   if (before && isSame(before.of, of)) return before;
   return { of, line, frame: frameOf(line, view.network, size), turns: turnsOf(view, line), ...firstRuns(othersOf(view, line), MOST_OTHERS) };
 };
 
-// The diagram of a line, and what it says of what is left out. Trains are drawn between events with times, and what is still
-// possible everywhere. Without a size it is for paper.
+// The diagram of a line, and a remark on what is left out. Trains are drawn between events with times, and possible minutes
+// everywhere. Without a size it is for paper.
 export const diagramOf = (view, whole, { chosen = null, size = undefined, sheet = emptySheet() } = {}) => {
   const { line, note } = stretchOf(whole, chosen), before = sheet.scene, scene = sceneOf(view, line, before, size), { page, clip } = sheet;
   sheet.scene = scene;
@@ -52,7 +52,7 @@ export const diagramOf = (view, whole, { chosen = null, size = undefined, sheet 
   return { drawn: page, note: [note, left, elided(waiting, MOST_TURNS, 'turns'), elided(beside, MOST_OTHERS, 'runs of other lines')].filter(Boolean).join(' ') };
 };
 
-// Draws what is new in a drawing, and gives what it says of what is left out.
+// Draws the changes in a drawing, and returns a remark on what is left out.
 const drawSheet = (view, { page, layers, scene, fixed }, chosen) => {
   const { line, frame, turns } = scene, { times, tensions } = view;
   drawLayer(layers.grid, [frame], () => gridOf(frame));
@@ -80,8 +80,8 @@ const drawTrains = (view, layers, scene) => {
   drawLayer(layers.reaches, [scene, ownMinutes, isDragged], () => own.flatMap(({ train, minutes }) => reachesOf(frame, train, minutes, 14)));
 };
 
-// The minutes at which the events of a line can still be, where not all are possible: those of trains that go down the
-// drawing below their station, the others above; arrivals nearer to it.
+// The minutes at which the events of a line can still be, unless all are possible: those of trains that go down the
+// drawing are below their station, the others above; arrivals are nearer to it.
 const possible = (view, frame, line, chosen) => line.trains.flatMap(train => {
   const side = isForward(line, train) ? 1 : -1;
   return train.events.map(event => {
@@ -96,7 +96,7 @@ const possible = (view, frame, line, chosen) => line.trains.flatMap(train => {
 
 const orderOf = line => new Map(line.stations.map((station, place) => [station, place]));
 
-// The trains of other lines that lie on tracks of this one, and where.
+// The trains of other lines on tracks of this one, and where.
 const othersOf = (view, line) => {
   const order = orderOf(line);
   const trains = view.lines.filter(({ name }) => name !== line.name).flatMap(each => each.trains);
@@ -113,7 +113,7 @@ const other = (frame, { train, places, minutes }) => places.flatMap(place => {
   return [...dash, ...reachesOf(frame, train, minutes, 8, [place])];
 });
 
-// Trains that wait between two ways, which are drawn as dashes beyond the station.
+// Trains that wait between two runs, drawn as dashes beyond the station.
 const turnsOf = (view, line) => [...view.network.activities.values()].filter(each => {
   const [from, to] = [labelOf(each.first), labelOf(each.last)];
   const isTurn = from.line === line.name && to.line === line.name && from.station === to.station && from.to !== to.to;
@@ -127,7 +127,7 @@ const turn = (view, frame, line, each) => {
   return marked([...waysOf(frame, points, line.color, 1.3, '3 3'), ...waysOf(frame, points, 'transparent', 9)], { 'data-activity': each.number });
 };
 
-// The minutes at which a train begins and ends, beside the ends of its way.
+// The minutes at which a train begins and ends, beside the ends of its path.
 const endsOf = ({ events }) => [events[0], events[events.length - 1]];
 
 const ends = (view, frame, line, train) => endsOf(train).flatMap((event, end) => {

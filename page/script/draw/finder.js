@@ -1,11 +1,11 @@
-// A field that lists what is found as one types: arrow keys go through the list, Enter or a click takes one, Escape closes it.
+// A field that lists matches while one types: arrow keys go through the list, Enter or a click chooses one, Escape closes it.
 
 import { element } from '../base/elements.js';
 
 const fields = [];
 
-// Fills a holder with a field; `search` gives what is found by a text, and how many more there are, and `take` is given what is
-// chosen. The field is returned.
+// Fills a holder with a field; `search` returns the matches of a text, and how many more there are, and `take` receives the
+// chosen one. The field is returned.
 export const fillFinder = (holder, { label, hint, search, take }) => {
   const name = `found-${fields.length + 1}`, list = element('ul', { role: 'listbox', id: name, 'aria-label': 'found', hidden: true });
   const input = element('input', { role: 'combobox', 'aria-expanded': 'false', 'aria-controls': name, 'aria-autocomplete': 'list',
@@ -14,7 +14,7 @@ export const fillFinder = (holder, { label, hint, search, take }) => {
   input.addEventListener('input', () => look(finder));
   input.addEventListener('blur', () => close(finder));
   input.addEventListener('keydown', event => typed(finder, event));
-  // The field keeps the keys while a pointer is on the list.
+  // The field keeps the focus while a pointer is on the list.
   list.addEventListener('mousedown', event => event.preventDefault());
   list.addEventListener('click', event => {
     const option = event.target.closest('[role=option]');
@@ -25,7 +25,7 @@ export const fillFinder = (holder, { label, hint, search, take }) => {
   return input;
 };
 
-// What was typed is of a network that is not there any more.
+// The typed text belongs to a network that is no longer open.
 export const finderPanel = {
   begin: () => fields.forEach(finder => {
     finder.input.value = '';

@@ -1,4 +1,4 @@
-// Stations, lines, trains and events by what is typed of their names: all words have to stand there, in any order, without accents.
+// Finds stations, lines, trains and events by a typed part of their names: all words must occur, in any order, without accents.
 
 import { display } from '../session/display.js';
 import { find, say } from '../base/elements.js';
@@ -26,7 +26,7 @@ const atText = event => display.view.times.has(event) ? ` at ${clock(display.vie
 
 const entry = (kind, value, name, note) => ({ kind, value, name, note, folded: fold(name) });
 
-// All that can be found, gathered when something is typed first.
+// All entries, gathered when the first letter is typed.
 const entries = ({ network, lines, trains }) => [
   ...[...countsOf(network.events)].map(([name, count]) => entry('station', name, name, `station, ${count} event${count > 1 ? 's' : ''}`)),
   ...lines.map(line => entry('line', line.name, line.name, `line, ${line.stations[0]} – ${line.stations[line.stations.length - 1]}`)),
@@ -34,7 +34,7 @@ const entries = ({ network, lines, trains }) => [
   ...network.events.map(event => entry('event', event, eventName(event), atText(event).trim())),
 ];
 
-// How well some words stand in an entry, 0 best; null where one is missing.
+// How well some words match an entry, 0 best; null if one is missing.
 const rankOf = ({ kind, value, folded }, words) => {
   const text = words.join(' ');
   if (folded === text || (kind === 'event' && String(value) === text)) return 0;
@@ -43,7 +43,7 @@ const rankOf = ({ kind, value, folded }, words) => {
   return words.every(word => ` ${folded}`.includes(` ${word}`)) ? 2 : 3;
 };
 
-// What is found of each kind, the best first, and how many more there are.
+// The matches of each kind, the best first, and how many more there are.
 export const matches = (text, kinds) => {
   const words = fold(text).split(/\s+/).filter(Boolean);
   if (!words.length) return { found: [], more: 0 };
@@ -63,7 +63,7 @@ const showLine = name => {
   showTab('diagram');
 };
 
-// On the netgraph too, which may be larger than its view.
+// Also on the netgraph, which may be larger than its view.
 const showStation = station => {
   showRow(firstAt(station));
   lookAt(station);
@@ -71,7 +71,7 @@ const showStation = station => {
 
 const SHOW = { event: event => showRow(event), station: showStation, line: showLine, train: event => showBar(event) };
 
-// Shows what was found, and says what it is.
+// Shows a match, and announces it.
 const show = ({ kind, value, name, note }) => {
   SHOW[kind](value);
   say([name, note].filter(Boolean).join(': '));

@@ -1,4 +1,4 @@
-// The netgraph fills its view where its names can be read then; where it is larger or zoomed, it is scrolled.
+// The netgraph fills its view if its names can be read then; if it is larger or zoomed, it is scrolled.
 
 import { find } from '../base/elements.js';
 import { spaceOf } from '../session/sizes.js';
@@ -6,20 +6,20 @@ import { spaceOf } from '../session/sizes.js';
 const LEAST = 0.56, MOST = 12;
 let zoom = 1;
 
-// The scale at which all of it is seen, and that which is not zoomed.
+// The scale at which all of it is visible, and the one without zoom.
 const scalesOf = page => {
   const { width, height } = page.viewBox.baseVal, room = spaceOf('netgraph'), whole = Math.min((room.width - 2) / width, room.height / height);
   return { whole, plain: Math.max(LEAST, whole) };
 };
 
-// Gives all drawings of the netgraph their size.
+// Sets the size of all drawings of the netgraph.
 export const fitMap = () => {
   const sheets = [...find('netgraph').children], [page] = sheets;
   if (!page) return;
   const { width, height } = page.viewBox.baseVal, scale = zoom * scalesOf(page).plain, room = spaceOf('netgraph');
   for (const { style } of sheets) {
     [style.width, style.height] = [width, height].map(each => `${(scale * each).toFixed(1)}px`);
-    // Beside what is zoomed there is room, so that each place of it can stay where it is.
+    // A zoomed netgraph has room around it, so that each place of it can stay where it is.
     style.margin = zoom > 1 ? `${room.height / 2}px ${room.width / 2}px` : '';
   }
 };
@@ -32,7 +32,7 @@ export const showWholeMap = () => {
   fitMap();
 };
 
-// Zooms it so many times about a place of the screen; false where it is as large or as small as it can be.
+// Zooms it by a factor about a place of the screen; false if it is already as large or as small as possible.
 export const zoomMap = (factor, x, y) => {
   const holder = find('netgraph'), [page] = holder.children;
   if (!page) return false;

@@ -1,19 +1,19 @@
-// Where minutes and stations lie in a distance-time diagram, and what is drawn there of any trains.
+// The places of minutes and stations in a distance-time diagram, and the parts that all trains share.
 
 import { drawing } from '../base/elements.js';
 import { clock, labelOf, shortText, stepOf } from '../session/names.js';
 
 const RIGHT = 16, TOP = 34, BOTTOM = 26, LEAST_HEIGHT = 190, TRACK = 48, CLOSE = 22, LEAST_SEEN = 90, MOST_LETTERS = 120;
-// What names of stations take of the width, and how many letters of them: less where there is little.
+// The width of station names, and their most letters: less if there is little room.
 const NARROW = 600, ROOMS = [{ left: 78, letters: 9 }, { left: 110, letters: 14 }];
 
-// How far beyond its station a train is drawn that turns there.
+// How far beyond its station a turning train is drawn.
 export const TURN = 13;
 
-// The size of a drawing on paper, which is as high as its line wants and shows one period.
+// The size of a drawing on paper, which is as high as its line needs and shows one period.
 const PAPER = Object.freeze({ width: 880, height: 0, minutes: null });
 
-// The least minutes of a run between each two neighbours, and 1 where it may take none.
+// The least minutes of a run between each two neighbours, and 1 if it may take none.
 export const lengthsOf = (lines, network) => {
   const lengths = new Map();
   for (const train of lines.flatMap(line => line.trains)) {
@@ -30,8 +30,8 @@ export const lengthsOf = (lines, network) => {
 // A track by the names of its two ends.
 export const trackOf = (one, other) => JSON.stringify(one < other ? [one, other] : [other, one]);
 
-// Where minutes and stations lie, how many minutes each station is from the first, and the events that are drawn, but for the steps
-// of trains in `away`.
+// The places of minutes and stations, how many minutes each station is from the first, and the drawn events, without the steps of
+// trains in `away`.
 export const frameOf = (line, network, { width, height, minutes } = PAPER) => {
   const lengths = lengthsOf([line], network), { period } = network, reached = [0], { first, count } = minutes || { first: 0, count: period };
   line.stations.slice(1).forEach((station, place) => {
@@ -46,14 +46,14 @@ export const frameOf = (line, network, { width, height, minutes } = PAPER) => {
   };
 };
 
-// A minute in each period in which it is shown.
+// A minute in each period that is shown.
 export const copiesOf = ({ first, count, period }, minute) => {
   const copies = [];
   for (let at = minute + Math.ceil((first - minute) / period) * period; at < first + count; at += period) copies.push(at);
   return copies;
 };
 
-// Where the minutes of a drawing lie on the screen.
+// The place of a drawing's minutes on the screen.
 export const minutesOn = page => {
   const [clip] = page.querySelectorAll('svg'), { left, width } = page.getBoundingClientRect(), scale = width / page.viewBox.baseVal.width;
   const [x, wide] = ['x', 'width'].map(name => scale * Number(clip.getAttribute(name)));
@@ -62,7 +62,7 @@ export const minutesOn = page => {
 
 export const heightOf = (frame, event) => frame.heights.get(labelOf(event).station);
 
-// The attributes of a drawing with a name, and of the part of it in which trains are.
+// The attributes of a named drawing, and of its part with the trains.
 export const looksOf = (frame, name) => {
   const { left, right } = frame, place = { x: left, y: TOP - TURN - 4, width: right - left, height: frame.bottom - TOP + 2 * TURN + 8 };
   return {
@@ -71,7 +71,7 @@ export const looksOf = (frame, name) => {
   };
 };
 
-// A drawing with its grid and its name, and the part of it in which trains are.
+// A drawing with its grid and its name, and its part with the trains.
 export const sheetOf = (frame, name) => {
   const looks = looksOf(frame, name), clip = drawing('svg', looks.clip), page = drawing('svg', looks.page, ...gridOf(frame), clip);
   return { page, clip };
@@ -91,11 +91,11 @@ export const gridOf = frame => {
   return made;
 };
 
-// Where the name of a station stands: beside its line, and one that is too long for that above it.
+// The place of a station's name: beside its line, or above it if it is too long for that.
 const placeOf = ({ left, letters }, station, y) =>
   station.length <= letters ? { x: left - 10, y: y + 4, 'text-anchor': 'end' } : { class: 'long', x: 2, y: y - 5 };
 
-// The path through minutes and heights, as often as a part of it comes into what is shown.
+// The path through minutes and heights, once for each period in which part of it is visible.
 export const pathsOf = (frame, points) => {
   const minutes = points.map(([minute]) => minute), { period, first, count } = frame, made = [], least = Math.min(...minutes);
   for (let shift = Math.ceil((first - Math.max(...minutes)) / period) * period; shift + least < first + count; shift += period) {

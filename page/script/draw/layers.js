@@ -1,13 +1,13 @@
-// A layer of a drawing, which is made anew just where something that it shows is another one than before.
+// A layer of a drawing, which is drawn again only if one of its values has changed.
 
 import { drawing, renew } from '../base/elements.js';
 
 export const isSame = (one, other) => one.length === other.length && one.every((each, place) => each === other[place]);
 
-// A layer with nothing in it yet; `of` is what was drawn.
+// An empty layer; `of` has the drawn values.
 export const makeLayer = () => ({ node: drawing('g'), of: null });
 
-// Draws a layer of some values, where one of them is new.
+// Draws a layer of some values, if one of them is new.
 export const drawLayer = (layer, of, make) => {
   if (layer.of && isSame(layer.of, of)) return;
   renew(layer.node, make());

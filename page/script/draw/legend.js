@@ -1,4 +1,4 @@
-// The legend at the top: what each mark is, drawn as it is where it stands.
+// The legend at the top: what each mark means, drawn as it looks in the picture.
 
 import { drawing, element, find } from '../base/elements.js';
 

@@ -1,12 +1,11 @@
-// What is drawn upon a diagram: what can be taken hold of, unseen and wider than what is drawn, and what is violated, in red with
-// the minutes had and wanted.
+// Marks on a diagram: invisible handles, wider than what is drawn, and violations, in red with the actual and required minutes.
 
 import { conflictsOf, detailsOf, isOutside, outsideText } from '../session/conflicts.js';
 import { drawing, elided } from '../base/elements.js';
 import { copiesOf, heightOf, waysOf } from './frames.js';
 
 const MOST_BROKEN = 200, LETTER = 7.4, ROW = 13, TRIES = [0, -1, 1, -2, 2, -3, 3], MARK = '✕';
-// What is red of a train is seen above its way, and what takes hold of the train there is hit.
+// The red mark of a train is visible above its path, but the handle of the train receives clicks there.
 const UNDER = { 'pointer-events': 'none' };
 
 export const marked = (nodes, attributes) => {
@@ -14,14 +13,14 @@ export const marked = (nodes, attributes) => {
   return nodes;
 };
 
-// What takes hold of a train between one of its events and the next.
+// The handle of a train between one of its events and the next.
 const reachOf = (frame, train, minutes, place, width) => {
   const ends = [place, place + 1], [from, to] = ends.map(each => train.events[each]);
   const points = ends.map(each => [minutes[each], heightOf(frame, train.events[each])]);
   return marked(waysOf(frame, points, 'transparent', width), { class: 'reach', 'data-event': from, 'data-next': to });
 };
 
-// The same of some places of a train, or of all; none while something is dragged, since nothing else is taken hold of then.
+// The same for some places of a train, or for all; none while something is dragged, since nothing else can be dragged then.
 export const reachesOf = (frame, train, minutes, width, places = [...train.steps.keys()]) => document.body.classList.contains('dragging') ? []
   : places.flatMap(place => reachOf(frame, train, minutes, place, width));
 
@@ -33,13 +32,13 @@ export const ringAt = (frame, event, minute, shift) => copiesOf(frame, minute).f
 
 const SIDES = { start: 0.5, middle: 0, end: -0.5 };
 
-// About where a text lies, so that no label is put there.
+// The approximate place of a text, so that no label is put there.
 const boxOf = text => {
   const [x, base] = ['x', 'y'].map(name => Number(text.getAttribute(name))), width = LETTER * text.textContent.length;
   return { x: x + SIDES[text.getAttribute('text-anchor') || 'start'] * width, base, width };
 };
 
-/** The labels of what is seen, in each period.
+/** The labels of the visible marks, in each period.
  * @param {any} frame
  * @param {any[]} boxes
  * @param {number[]} at
@@ -47,7 +46,7 @@ const boxOf = text => {
  * @param {object} more */
 const labelsOf = (frame, boxes, [minute, y], text, more) => copiesOf(frame, minute).map(at => labelOf(frame, boxes, [at, y], text, more));
 
-/** A label where no other one lies, or just a mark where there is no such place.
+/** A label if no other one is in the way, and otherwise only a mark.
  * @param {any} frame
  * @param {any[]} boxes
  * @param {number[]} at
@@ -64,10 +63,11 @@ const labelOf = (frame, boxes, [minute, y], text, more) => {
   return drawing('text', { class: 'broken', x, y: base, 'text-anchor': 'middle', ...more }, text);
 };
 
-// The minutes over which a violated activity is drawn: what rules little out, as a headway, over the shorter way between its ends.
+// The minutes over which a violated activity is drawn: one that excludes little, such as a headway, over the shorter way between
+// its ends.
 const drawnOver = ({ activity: { lower, upper }, had }, period) => 2 * (upper - lower) > period && 2 * had > period ? had - period : had;
 
-// Where a violated activity lies of which an end is drawn, at one height where the other end or the run is not; null where none is.
+// The place of a violated activity with a drawn end, at one height if the other end or the run is not drawn; null if no end is.
 const pointsOf = (view, frame, conflict) => {
   const { first, last } = conflict.activity, [from, to] = [first, last].map(event => heightOf(frame, event)), start = view.times.get(first);
   if (![first, last].some(event => frame.events.has(event))) return null;
@@ -88,7 +88,7 @@ const brokenOf = (view, frame, where, boxes) => {
   return { paths, labels, note: elided(all.length, MOST_BROKEN, `that are violated ${where}`) };
 };
 
-// What is violated in a drawing: paths and rings in red, labels beside some texts, and a word on what is left out.
+// The violations in a drawing: paths and rings in red, labels away from some texts, and a remark on what is left out.
 export const conflictMarks = (view, frame, where, texts) => {
   const boxes = texts.map(boxOf), { paths, labels, note } = brokenOf(view, frame, where, boxes);
   for (const event of [...frame.events].filter(each => isOutside(view, each))) {

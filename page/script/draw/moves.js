@@ -1,4 +1,4 @@
-// What a timetable would move, in edits, in words, and on the strips.
+// The moves of a timetable, in edits, in words, and on the strips.
 
 import { display } from '../session/display.js';
 import { timeEdits } from '../base/edits.js';
@@ -7,7 +7,7 @@ import { eventName, minutesText, oldText, trainName } from '../session/names.js'
 import { timesNow } from '../session/session.js';
 import { trainAt } from '../session/trains.js';
 
-// So many trains are told by their names.
+// The most trains that are named.
 const MOST_NAMED = 2;
 
 const movedBy = times => {
@@ -22,7 +22,7 @@ const farther = (one, other) => {
   return Math.min(later, period - later);
 };
 
-// How many trains move, or events where there are no trains, and by how much; but for those that are held.
+// How many trains move, or events if there are no trains, and by how much; except those that are held.
 export const movesText = (times, held = new Set()) => {
   const before = timesNow(), moved = movedBy(times).map(([event]) => event).filter(event => !held.has(event)), other = held.size ? 'other ' : '';
   const trains = new Set(moved.map(event => trainAt(event) ? trainAt(event).train : event)), isOfTrains = moved.every(event => trainAt(event));
@@ -40,7 +40,7 @@ const ghostIn = ({ before, network: { period } }, strip) => {
   return ghost;
 };
 
-// Where times were that are others in a timetable that is shown before it is taken.
+// The previous times of events that a proposed timetable would move.
 export const drawOld = view => {
   for (const ghost of ghosts) ghost.remove();
   ghosts = view.before ? findAll('.strip').filter(strip => oldText(view, Number(strip.dataset.event))).map(strip => ghostIn(view, strip)) : [];

@@ -1,11 +1,11 @@
-// The part of a network that a netgraph draws: all of it, or where it is too large what lies about the chosen event.
+// The part of a network that a netgraph draws: all of it, or, if it is too large, the surroundings of the chosen event.
 
 import { MOST_STATIONS } from './stretch.js';
 import { tracksOf } from './tracks.js';
 
 const MOST_NEARBY = 120, MOST_TRACK_LINES = 12;
 
-// The stations of lines, or those from which fewest tracks lead to the first of them, in the order in which they are reached.
+// The stations of lines, or those fewest tracks away from the first of them, in the order of distance.
 const stationsFrom = (start, stations, tracks, most) => {
   const ends = new Map(stations.map(station => [station, []])), reached = new Set();
   for (const { one, other } of tracks) {
@@ -24,7 +24,7 @@ const stationsFrom = (start, stations, tracks, most) => {
   return [...reached];
 };
 
-// The stations and tracks to draw, and the word that says what is left out.
+// The stations and tracks to draw, and the remark on what is left out.
 export const nearby = (lines, chosen) => {
   const all = tracksOf(lines), stations = [...new Set(lines.flatMap(line => line.stations))];
   const isWhole = stations.length <= MOST_STATIONS, start = stations.includes(chosen) ? chosen : stations[0];
@@ -38,7 +38,7 @@ export const nearby = (lines, chosen) => {
   return { stations: drawn, tracks: cut, note: notes.filter(Boolean).join(' ') };
 };
 
-// The first of some trains with their places on a line, of which at most so many are drawn, and how many places there are.
+// The first of some trains with their places on a line, up to a number of drawn places, and how many places there are.
 export const firstRuns = (all, most) => {
   const runs = all.reduce((sum, { places }) => sum + places.length, 0), others = [];
   for (let place = 0, left = most; place < all.length && left > 0; place += 1) {

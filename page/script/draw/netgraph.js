@@ -1,5 +1,5 @@
-// The netgraph: stations with the minutes at which trains of each line leave and arrive. It is laid out once for a network;
-// at each step its numbers alone are set. A large one is laid out and drawn in slices, and of its tracks those that are in sight.
+// The netgraph: stations with the minutes at which trains of each line leave and arrive. It is laid out once for a network; at
+// each step only its numbers are set. A large one is laid out and drawn in slices, with only its visible tracks.
 
 import { drawAlarms, makeAlarm } from './alarms.js';
 import { beside } from './apart.js';
@@ -21,18 +21,18 @@ import { isTab } from '../session/tabs.js';
 import { mostNumbers } from './tracks.js';
 
 const AREA = 1020 * 640, MARGIN = 64, RATIOS = [1, 1020 / 640, 2.2], EDGE = 8, STATIONS_OF_A_PAGE = 14, RING = 11;
-// What the name of a line takes of a track with some space, and what each number takes at each of its ends.
+// The length of a track that the name of a line takes with some space, and each number at each of its ends.
 const ROOM = 70, ROW = 13, SCALE = 0.56;
 // With more stations it takes long.
 const FEW = 40;
-// What is laid out; the numbers, alarms and tracks of it that are drawn; what ends the making of it, and the drawing of tracks, null where
-// neither is done; whether another part came in sight meanwhile; and what hears of another size.
+// The layout; its drawn numbers, alarms and tracks; functions that stop its construction, and the drawing of tracks, null if
+// neither runs; whether another part became visible meanwhile; and the listener for sizes.
 let graph = null, numbers = new Map(), alarms = null, sheets = new Map(), making = null, tracing = null, isMoved = false, sight = null;
 
-// Minutes that are told with the hour are wider.
+// Minutes with an hour are wider.
 const numberWidth = () => display.view.network.period > 60 ? 36 : 21;
 
-// The part to be drawn, about the station of the chosen event.
+// The part to be drawn, around the station of the chosen event.
 const extractOf = view => {
   const about = labelOf(display.chosen).station;
   return { about, ...nearby(view.lines, about) };
@@ -49,7 +49,7 @@ const laidOut = function* ({ lines, network }, { about, stations, tracks, note }
   return { about, tracks, radius, note, isSmall, places };
 };
 
-// How many times as wide as high the view is that the netgraph fills.
+// The ratio of width to height of the view that the netgraph fills.
 const ratioNow = () => {
   const { width, height } = spaceOf('netgraph');
   return height ? Math.min(RATIOS[2], Math.max(RATIOS[0], width / height)) : RATIOS[1];
@@ -79,7 +79,7 @@ const draw = function* (view, extract, isPaper = false) {
 
 const trackLinesOf = track => track.trackLines.map((trackLine, place) => drawTrackLine(track, trackLine, (place - (track.trackLines.length - 1) / 2) * LINE_STEP));
 
-// Names can be read, and where there are many the netgraph is scrolled.
+// Names are readable, and if there are many, the netgraph is scrolled.
 const sheetOf = (name, children, isPaper = false) => {
   const { box } = graph, made = drawing('svg', { viewBox: box.join(' '), role: 'group', 'aria-label': name }, ...children);
   if (isPaper) Object.assign(made.style, { minWidth: `${SCALE * box[2]}px`, maxHeight: `max(46rem, ${SCALE * box[3]}px)` });
@@ -99,11 +99,11 @@ const viewBox = ({ places, radius }, labels) => {
 const drawTrackLine = (track, trackLine, offset) => {
   const first = graph.places.get(track.one), last = graph.places.get(track.other), length = Math.hypot(last[0] - first[0], last[1] - first[1]) || 1;
   const along = [(last[0] - first[0]) / length, (last[1] - first[1]) / length];
-  // Within this frame the track runs from 0 to its length along the x axis, so that texts lie along it.
+  // In this frame the track runs from 0 to its length along the x axis, so that texts are along it.
   const isTurned = along[0] < -1e-9, sign = isTurned ? -1 : 1, turn = Math.atan2(along[1], along[0]) * 180 / Math.PI + (isTurned ? 180 : 0);
   const start = [first[0] - along[1] * offset, first[1] + along[0] * offset];
   const origin = `translate(${start[0].toFixed(1)} ${start[1].toFixed(1)}) rotate(${turn.toFixed(1)})`;
-  // No farther from its ring than leaves room for the name of the line in the middle.
+  // Not farther from its ring than leaves room for the name of the line in the middle.
   const rings = [track.one, track.other].map(station => graph.radius.get(station));
   const most = (length - rings[0] - rings[1]) / 2 - 17 - numberWidth() * mostNumbers([trackLine]);
   const begins = [track.one, track.other].map((station, end) => Math.min(clearOf(station, track, offset), rings[end] + Math.max(5, most)));
@@ -116,7 +116,7 @@ const drawTrackLine = (track, trackLine, offset) => {
     ...numbersAt(trackLine, track.other, -sign, sign * (length - begins[1])));
 };
 
-// How far from a station the numbers of a line begin: outside its ring, and beside no other track.
+// How far from a station the numbers of a line begin: outside its ring, and away from other tracks.
 const clearOf = (station, track, offset) => {
   let clear = Math.sqrt(Math.max(0, graph.radius.get(station) ** 2 - Math.max(0, Math.abs(offset) - ROW) ** 2));
   for (const other of graph.tracks) {
@@ -138,7 +138,7 @@ const pill = (x, line) => {
     drawing('text', { class: 'lane', x, y: 4.2, 'text-anchor': 'middle' }, name)];
 };
 
-// The minutes of a line at one end of a track, to the right of the track as their trains go.
+// The minutes of a line at one end of a track, to the right of the track in the direction of its trains.
 const numbersAt = (trackLine, station, outward, x) => {
   const [leaving, arriving] = outward > 0 ? [11.5, -4] : [-4, 11.5], anchor = outward > 0 ? 'start' : 'end';
   const rows = [[trackLine.leaving.get(station), leaving, 'leaves'], [trackLine.arriving.get(station), arriving, 'arrives']];
@@ -165,7 +165,7 @@ const drawStation = (station, { x, base, anchor }) => {
   return [drawing('g', more, drawing('title', {}, station), ring, text), alarm.label];
 };
 
-// What is in sight of a large netgraph: the circle about it, in the units of the drawing.
+// The visible part of a large netgraph: the circle around it, in the units of the drawing.
 const inSight = drawn => {
   const { left, top, right, bottom } = find('netgraph').getBoundingClientRect(), turned = drawn.getScreenCTM().inverse();
   const corners = [[Math.max(0, left), Math.max(0, top)], [Math.min(window.innerWidth, right), Math.min(window.innerHeight, bottom)]];
@@ -173,7 +173,7 @@ const inSight = drawn => {
   return { middle: [(first.x + last.x) / 2, (first.y + last.y) / 2], reach: Math.hypot(last.x - first.x, last.y - first.y) / 2 };
 };
 
-// Draws the tracks that have come in sight, and takes away those that are not in sight any more.
+// Draws the tracks that have become visible, and removes those that are not visible any more.
 const drawTracks = function* () {
   const holder = find('netgraph'), { middle, reach } = graph.isSmall ? { middle: [0, 0], reach: Infinity } : inSight(holder.firstChild);
   for (const track of graph.tracks) {
@@ -200,7 +200,7 @@ const drawTimes = (view, chosen = display.chosen) => {
 
 const tellBusy = isBusy => find('netgraph').setAttribute('aria-busy', isBusy);
 
-// What is in sight may be another part. While tracks are drawn that waits.
+// Another part may be visible. While tracks are drawn, that waits.
 const lookAround = () => {
   if (!isTab('netgraph') || !graph || making || graph.isSmall) return;
   isMoved = Boolean(tracing);
@@ -213,7 +213,7 @@ const lookAround = () => {
   });
 };
 
-// Shows what was made, the part about the chosen event where the netgraph is larger than its panel.
+// Shows the result, the part around the chosen event if the netgraph is larger than its panel.
 const show = page => {
   sheets = new Map();
   find('netgraph').replaceChildren(page);
@@ -237,7 +237,7 @@ const make = view => {
   });
 };
 
-// Ends what is being made, which is begun anew, and the drawing of tracks.
+// Stops the construction, which is then restarted, and the drawing of tracks.
 const stop = () => {
   tellBusy(false);
   if (tracing) tracing();
@@ -259,7 +259,7 @@ const update = view => {
 
 const isWider = panel => panel.scrollWidth > panel.clientWidth;
 
-// Brings a station to the middle of the view, than which the netgraph may be larger.
+// Moves a station to the middle of the view, which may be smaller than the netgraph.
 export const lookAt = station => {
   const drawn = findAll('#netgraph [data-station]').find(each => each.dataset.station === station);
   if (!drawn) return;
@@ -267,7 +267,7 @@ export const lookAt = station => {
   panel.scrollBy(at.left - of.left - of.width / 2, at.top - of.top - of.height / 2);
 };
 
-// The netgraph for paper, with no event chosen, and what it says of what is left out; the one on the screen stays.
+// The netgraph for paper, with no event chosen, and a remark on what is left out; the one on the screen stays.
 export const netgraphOf = view => {
   const screen = { graph, numbers, alarms }, drawn = atOnce(draw(view, extractOf(view), true)), { note } = graph;
   drawTimes(view, null);
@@ -275,7 +275,7 @@ export const netgraphOf = view => {
   return { drawn, note };
 };
 
-// A number is set where it is another one than was drawn, since there are many and a step changes few.
+// A number is set if it differs from the drawn one, since there are many and a step changes few.
 const drawNumber = (view, event, number, chosen) => {
   const text = minuteText(view, event), isChosen = event === chosen;
   const look = [isAlarming(view, event) ? 'alarm' : '', isChosen ? 'chosen' : ''].join(' ').trim(), old = oldText(view, event), drawn = `${text} ${look} ${old}`;

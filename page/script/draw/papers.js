@@ -1,4 +1,4 @@
-// What is printed: some lines, which are all at first, and boards of some stations.
+// The choice of what is printed: lines, by default all, and boards of stations.
 
 import { display } from '../session/display.js';
 import { element, find } from '../base/elements.js';

@@ -1,10 +1,10 @@
-// Where stations lie on a netgraph: as a file of places says, or laid out from the lengths of tracks (stress majorization).
+// The places of stations on a netgraph: those of a file of places, or a layout from the lengths of tracks (stress majorization).
 
-// Parts that nothing joins lie in rows that are together about so many times as wide as high.
+// Unconnected parts are in rows, together about RATIO times as wide as high.
 const MOST_ROUNDS = 200, MOST_MOVES = 600000, RATIO = 2;
 
-// Places at which stations are about as far apart as the ways between them are long; parts that nothing joins are beside each other. They
-// are worked out step by step.
+// Places at which the distances of stations are about the lengths of the paths between them, computed in steps; unconnected parts are
+// beside each other.
 export const layOut = function* (stations, lengths) {
   const apart = yield* distances(stations, lengths), all = [...lengths.values()], laid = new Map(), layouts = [];
   for (const part of partsOf(apart)) {
@@ -45,7 +45,7 @@ const inRows = (layouts, room) => {
   }
 };
 
-// The lengths of shortest ways over tracks between these stations, infinite where there is none.
+// The lengths of shortest paths over tracks between these stations, infinite if there is none.
 const distances = function* (stations, lengths) {
   const apart = stations.map((_, one) => stations.map((__, other) => one === other ? 0 : Infinity));
   const places = new Map(stations.map((station, place) => [station, place]));
@@ -66,15 +66,15 @@ const distances = function* (stations, lengths) {
 
 const farthest = (count, far) => [...Array(count).keys()].reduce((best, each) => far(each) > far(best) ? each : best, 0);
 
-// A first layout, by the distances from two ends of the network and from what is far from both.
+// A first layout, by the distances from two ends of the network and from a station far from both.
 const firstPlaces = apart => {
   const west = farthest(apart.length, each => apart[0][each]), east = farthest(apart.length, each => apart[west][each]);
   const north = farthest(apart.length, each => Math.min(apart[west][each], apart[east][each]));
-  // The small shift keeps two stations apart that are equally far from all three.
+  // The small shift separates two stations that are equally far from all three.
   return apart.map((_, each) => [(apart[west][each] - apart[east][each]) / 2 + each * 1e-3, apart[north][each] + (each % 7) * 1e-3]);
 };
 
-// Where the other stations, at their places, want a station, near ones most.
+// The place that the other stations suggest for a station, near ones with the most weight.
 const wanted = (station, places, apart) => {
   const [x, y] = places[station];
   let [sumX, sumY, sum] = [0, 0, 0];
@@ -88,7 +88,7 @@ const wanted = (station, places, apart) => {
   return sum ? [sumX / sum, sumY / sum] : [x, y];
 };
 
-// The same layout about its middle, turned so that it is widest from west to east.
+// The same layout about its middle, rotated so that it is widest from west to east.
 const level = places => {
   const count = places.length, middle = [0, 1].map(axis => places.reduce((sum, place) => sum + place[axis], 0) / count);
   const moved = places.map(([x, y]) => [x - middle[0], y - middle[1]]);

@@ -1,5 +1,5 @@
-// A report: what the Python package has asked the program of a network, drawn as it is printed and without hands. All numbers in it are
-// those of replies to the package; the module in this page is asked nothing until the reader wants to change something.
+// A report: the program's replies that the Python package gathered on a network, drawn as for paper and without controls. All its
+// numbers are those of the replies; this page's module is used only once the reader wants to change something.
 
 import { conflictsOf } from '../session/conflicts.js';
 import { connectionTables } from './connections.js';
@@ -33,13 +33,13 @@ const networkOf = ({ period, events, windows, activities }) => ({
   activities: mapOf(activities, ([first, last, lower, upper, weight], number) => ({ number, first, last, lower, upper, weight })),
 });
 
-// The minutes that events can be at; those at which any is possible are not listed.
+// The minutes at which events can be; events that can be at any are not listed.
 const domainsOf = ({ network: { events, period }, domains }) => {
   const listed = new Map(domains), any = [...Array(period).keys()];
   return new Map(events.map(event => [event, listed.get(event) || any]));
 };
 
-// The view that a report has, with its labels and places; from then on it is the one that is shown.
+// The view of a report, with its labels and places; it becomes the one that is shown.
 export const viewOfReport = report => {
   const view = {
     network: networkOf(report.network), domains: domainsOf(report), times: new Map(report.times), labels: labelsOf(report.labels), missing: report.missing,
@@ -50,7 +50,7 @@ export const viewOfReport = report => {
   return view;
 };
 
-// What is said above all where there is no timetable.
+// The headline if there is no timetable.
 const headline = (view, report) => {
   if (report.isInfeasible || isInfeasible(view)) return 'No timetable meets everything.';
   const count = view.network.events.length, untimed = count - view.times.size;
@@ -80,7 +80,7 @@ const summary = (view, report) => {
 
 const section = (id, title, note, ...children) => element('section', { id, class: 'part' }, element('h2', {}, title), note && element('p', { class: 'quiet' }, note), ...children);
 
-// By how much an event misses its window, the nearer way.
+// By how much an event misses its window, the shorter way.
 const offText = ({ network: { windows, period }, times }, event) => {
   const { first, length } = windows.get(event), modulo = value => ((value % period) + period) % period;
   const early = modulo(first - times.get(event)), late = modulo(times.get(event) - first - length + 1);
@@ -127,18 +127,18 @@ const limited = view => {
 
 const saidText = () => `Times, possible minutes, slacks, violations and ${costName()} are replies of pespbench; names are those of the labels.`;
 
-// All that a report shows.
+// All parts of the report.
 export const reportOf = (view, report) => [summary(view, report), ...violated(view), ...netgraph(view),
   ...view.lines.length ? [section('lines', 'Lines', 'A framed minute is held. In the diagrams, stations are as far apart as trains need at least.', ...tablesOf(view, true))] : [],
   ...connectionTables(view), ...limited(view), ...kindTables(view), element('p', { class: 'quiet' }, saidText())];
 
-// The report that stands in this page; null where it is no report.
+// The report in this page; null if it is not a report.
 export const reportGiven = () => {
   const text = find('given').textContent.trim();
   return text ? JSON.parse(text) : null;
 };
 
-// Shows it, until the reader wants to work on what it tells.
+// Shows it, until the reader wants to edit its network.
 export const readReport = report => new Promise(done => {
   const view = viewOfReport(report), work = element('button', { class: 'main', id: 'work' }, 'Work on it');
   document.title = [report.title, 'pespbench'].filter(Boolean).join(' – ');
@@ -152,7 +152,7 @@ export const readReport = report => new Promise(done => {
   });
 });
 
-// Opens in the workbench what a report tells.
+// Opens the network of a report in the workbench.
 export const openReport = report => {
   const { network, times, labels } = viewOfReport(report), { places } = display;
   openBase(baseOf(network, times), { title: report.title, labels, places });

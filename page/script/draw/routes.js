@@ -1,8 +1,8 @@
-// Ways between stations over tracks, the shortest by the least minutes of runs.
+// Routes between stations over tracks, the shortest by the least minutes of runs.
 
 import { lengthsOf, trackOf } from './frames.js';
 
-// A run that passes stations at which another train stops is no track of its own, if it takes about as long as they do.
+// A run that passes stations at which another train stops is not a separate track, if it takes about as long.
 const MOST_PASSED = 12;
 export const AS_LONG = 1.5;
 
@@ -26,14 +26,14 @@ const leavePassing = (stations, lengths) => stations.forEach((station, first) =>
   }
 });
 
-// The nearest station of those that are reached and not left yet.
+// The nearest reached station that was not yet expanded.
 const nearest = reached => {
   let best = null;
   for (const each of reached.values()) if (!each.isLeft && (!best || each.minutes < best.minutes)) best = each;
   return best;
 };
 
-// The stations of the shortest way, its ends too, which passes none of some others; null where there is none.
+// The stations of the shortest route, including its ends, that avoids some others; null if there is none.
 export const routeBetween = (neighbours, start, end, passed) => {
   const reached = new Map([[start, { station: start, minutes: 0, before: null, isLeft: false }]]);
   for (let at = nearest(reached); at && at.station !== end; at = nearest(reached)) {

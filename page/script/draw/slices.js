@@ -1,15 +1,15 @@
-// Long work in slices, between which the page is drawn and hears what is done.
+// Long work in slices, between which the page is drawn and handles events.
 
 const SLICE = 10;
 
-// Does all of it now, and gives what it makes.
+// Does all of it now, and returns its result.
 export const atOnce = work => {
   let step = work.next();
   while (!step.done) step = work.next();
   return step.value;
 };
 
-// Does some milliseconds of it in each frame, and hands on what it makes; what is given stops it.
+// Does some milliseconds of it in each frame, and passes its result on; the returned function stops it.
 export const inSlices = (work, end) => {
   const go = () => {
     const until = performance.now() + SLICE;

@@ -2,9 +2,9 @@
 
 const MOST_ROUNDS = 300, MOST_LOOKS = 2000000, SHARE = 0.3, CLEARANCE = 26, FAN_REACH = 45;
 
-// Places in the units of a drawing, near where they were, with room for numbers. They are worked out step by step.
-//   places: of each station its place in any unit, y downwards; tracks: {one, other, along, beside} with the room that each
-//   wants along it and to each side; radius: of each station; size: width and height, which grow where stations want it.
+// Places in the units of a drawing, near the given ones, with room for numbers, computed in steps.
+//   places: the place of each station in any unit, y downwards; tracks: {one, other, along, beside} with the room that each
+//   needs along it and to each side; radius: of each station; size: width and height, which grow if stations need it.
 export const spread = function* (places, tracks, radius, size) {
   const spreading = start(fitted(places, size), tracks, radius);
   const looks = places.size * (places.size / 2 + tracks.length) + 1;
@@ -13,11 +13,11 @@ export const spread = function* (places, tracks, radius, size) {
   return spreading.places;
 };
 
-// How far numbers are from the least, as parts of a length of which half is given, so that nothing overflows.
+// The distances of numbers from the least, as shares of a length; `half` of it is given, so that nothing overflows.
 const sharesOf = (numbers, least, half) => numbers.map(each => half ? (each / 2 - least / 2) / half : 0);
 
-// The places at a scale at which they fit into a size, stretched up to a half more one way where that fills it. They are parts of the
-// longer way first, so that none is too far or too near for what is worked out with them.
+// The places at a scale at which they fit into a size, stretched by up to a half one way if that fills it. They are first divided
+// by the longer side, so that no value is too large or too small.
 const fitted = (places, [width, height]) => {
   const axes = [0, 1].map(axis => [...places.values()].map(place => place[axis])), leasts = axes.map(numbers => Math.min(...numbers));
   const halves = axes.map((numbers, axis) => Math.max(...numbers) / 2 - leasts[axis] / 2), longer = Math.max(...halves);
@@ -25,7 +25,7 @@ const fitted = (places, [width, height]) => {
   let across = wide ? width / wide : 1, down = high ? height / high : 1;
   const scale = Math.min(wide ? across : down, high ? down : across);
   [across, down] = [across, down].map(each => Math.min(each, 1.5 * scale));
-  // Stations in one place, or on one line, are kept apart by their order.
+  // Stations at one place, or on one line, are separated by their order.
   return new Map([...places.keys()].map((name, place) => [name, [xs[place] * across + place * 0.01, ys[place] * down + place * 0.01]]));
 };
 
@@ -46,7 +46,7 @@ const move = (spreading, station, x, y, length) => {
   spreading.isMoved = true;
 };
 
-// Mends each lack of room in part; false where there was none.
+// Reduces each lack of room by a part; false if there was none.
 const step = function* (spreading) {
   const { names, tracks, radius, rooms, ends } = spreading;
   spreading.isMoved = false;
@@ -67,7 +67,7 @@ const step = function* (spreading) {
   return spreading.isMoved;
 };
 
-// Pushes two stations apart that are nearer than wanted.
+// Moves two stations apart that are nearer than needed.
 const push = (spreading, one, other, wanted) => {
   const [x, y] = spreading.places.get(one), [otherX, otherY] = spreading.places.get(other), apart = Math.hypot(otherX - x, otherY - y);
   if (apart >= wanted - 0.5) return;
@@ -76,7 +76,7 @@ const push = (spreading, one, other, wanted) => {
   move(spreading, one, -along[0], -along[1], SHARE * (wanted - apart));
 };
 
-// Pushes a station away from a track that passes too near, and the track's ends a little the other way.
+// Moves a station away from a track that passes too near, and the track's ends slightly the other way.
 const clear = (spreading, station, track) => {
   const here = spreading.places.get(station), begin = spreading.places.get(track.one), end = spreading.places.get(track.other);
   const length = Math.hypot(end[0] - begin[0], end[1] - begin[1]);
@@ -90,7 +90,7 @@ const clear = (spreading, station, track) => {
   for (const name of [track.one, track.other]) move(spreading, name, along[1] * side, -along[0] * side, SHARE * lack / 2);
 };
 
-// Turns two tracks at a station apart whose numbers would lie on each other, each with its room beside.
+// Rotates two tracks at a station apart whose numbers would overlap, each with its room beside.
 const fan = (spreading, station, [one, oneBeside], [other, otherBeside]) => {
   const here = spreading.places.get(station);
   const [from, to] = [one, other].map(name => spreading.places.get(name)).map(([x, y]) => [x - here[0], y - here[1]]);
@@ -103,7 +103,7 @@ const fan = (spreading, station, [one, oneBeside], [other, otherBeside]) => {
   move(spreading, other, -to[1], to[0], side);
 };
 
-// How far one turns from an angle to another one, from minus half a turn to half a turn.
+// The rotation from one angle to another, from minus half a turn to half a turn.
 export const angleBetween = (from, to) => {
   const turn = (to - from) % (2 * Math.PI);
   return turn > Math.PI ? turn - 2 * Math.PI : turn < -Math.PI ? turn + 2 * Math.PI : turn;

@@ -1,4 +1,4 @@
-// How the stations of a corridor are chosen: by name, by a click on the netgraph, or all of a line.
+// The choice of the corridor's stations: by name, by a click on the netgraph, or all of a line.
 
 import { chooseCorridor, corridor, switchStation } from './corridor.js';
 import { display } from '../session/display.js';
@@ -13,7 +13,7 @@ const button = (name, act) => element('button', { type: 'button', onclick: act }
 
 const lineOf = view => view.lines.find(line => line.name === display.chosenLine) || view.lines[0];
 
-// What stays where it is, so that the keys stay on it.
+// The elements that stay in place, so that they keep the focus.
 const clear = () => chooseCorridor([]), chips = element('ol', { 'aria-label': 'stations chosen' }), summary = element('span');
 const all = button('All of a line', () => chooseCorridor([...lineOf(display.view).stations]));
 const turn = button('Turn round', () => chooseCorridor([...corridor.chosen].reverse()));

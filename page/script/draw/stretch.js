@@ -1,22 +1,22 @@
-// The part of a line that its diagram draws: all of it, or where it is too long the stations about the chosen event.
+// The part of a line that its diagram draws: all of it, or, if it is too long, the stations around the chosen event.
 
 import { labelOf } from '../session/names.js';
 import { piecesWhere } from '../session/trains.js';
 
 const MOST_STRETCH = 120;
-// So many stops of trains are drawn with all stations of a line.
+// With this many stops of trains all stations of a line are drawn.
 const MOST_STOPS = 5000;
 
-// More stations than these are not all drawn, in a diagram or in a netgraph.
+// With more stations than this not all are drawn, in a diagram or in a netgraph.
 export const MOST_STATIONS = 349;
 
-// The pieces of a train that lie in some stations, each as a train.
+// The pieces of a train within some stations, each as a train.
 export const piecesOf = (train, stations) => piecesWhere(train, event => stations.has(labelOf(event).station));
 
 const isSmall = ({ stations, trains }) => stations.length <= MOST_STRETCH
   || (stations.length <= MOST_STATIONS && trains.reduce((sum, { events }) => sum + events.length, 0) <= MOST_STOPS);
 
-// The line, with the word that says what is left out.
+// The line, with the remark on what is left out.
 export const stretchOf = (line, chosen) => {
   const { stations } = line;
   if (isSmall(line)) return { line, note: '' };

@@ -1,5 +1,5 @@
 // The table of each line: stations down, and for each train the minutes at which it arrives and leaves across. On
-// paper the diagram of each line stands below.
+// paper the diagram of each line is below it.
 
 import { conflictsOfRow, detailsOf, isAlarming, isOutside, outsideText, shortConflicts } from '../session/conflicts.js';
 import { diagramOf } from './diagram.js';
@@ -9,7 +9,7 @@ import { bareClock, domainText, eventName, windowText } from '../session/names.j
 import { isTab } from '../session/tabs.js';
 import { isForward } from '../session/trains.js';
 
-// The cells of the tables on the screen, by events; null where they are to be made anew.
+// The cells of the tables on the screen, by events; null if they must be built again.
 let kept = null;
 
 const lineTable = (line, made) => {
@@ -32,7 +32,7 @@ const cell = (event, name, made) => {
   return node;
 };
 
-// Draws what is new about the cell of an event.
+// Draws the changes in the cell of an event.
 const drawCell = (view, event, drawnAt) => {
   const look = lookOf(view, event, [drawnAt.name, view.network.windows.has(event) ? 'held' : '']), text = minuteText(view, event);
   const drawn = `${text} ${Object.values(look).join()}`;
@@ -42,7 +42,7 @@ const drawCell = (view, event, drawnAt) => {
   setText(drawnAt.node, text);
 };
 
-// The look of a minute, below which its style puts what is violated there.
+// The look of a minute; its style shows what is violated there.
 const lookOf = (view, event, words) => {
   const conflicts = conflictsOfRow(view, event);
   const faults = [isOutside(view, event) && outsideText(view, event), shortConflicts(conflicts)];
@@ -53,7 +53,7 @@ const lookOf = (view, event, words) => {
   };
 };
 
-// The minute of an event; where it has no time and one minute alone is possible, that one in brackets.
+// The minute of an event; if it has no time and only one minute is possible, that one in brackets.
 export const minuteText = (view, event) => {
   const time = view.times.get(event), minutes = view.domains.get(event);
   if (time === undefined) return minutes.length === 1 ? `(${bareClock(minutes[0])})` : '–';
@@ -67,7 +67,7 @@ const headOf = (line, isPrinted) => {
     !isPrinted && ' ', !isPrinted && element('button', { class: 'small', type: 'button', 'data-alter': line.name, 'aria-label': `Change line ${line.name}` }, 'Change…'));
 };
 
-// Where there are no lines: all events, each in a row.
+// Without lines: all events, each in a row.
 const eventTable = view => {
   const rows = view.network.events.map(event => rowOf(eventName(event), eventCells(view, event), { 'data-event': event }));
   return tableOf('times', ['Event', 'time', 'can be at', 'held'], rows);

@@ -2,7 +2,7 @@
 
 import { trackOf } from './frames.js';
 
-// Of each track its two ends, in the order of their names, and its lines.
+// For each track its two ends, in the order of their names, and its lines.
 export const tracksOf = lines => {
   const tracks = new Map();
   for (const line of lines) {
@@ -24,7 +24,7 @@ const addRun = (tracks, line, before, after) => {
 
 const add = (events, station, event) => events.set(station, [...events.get(station) || [], event]);
 
-// The most numbers that stand in a row at an end of some lines.
+// The most numbers in a row at an end of some lines.
 export const mostNumbers = trackLines => {
   const rows = trackLines.flatMap(trackLine => [...trackLine.leaving.values(), ...trackLine.arriving.values()]);
   return Math.max(1, ...rows.map(events => events.length));

@@ -1,4 +1,5 @@
-// The diagram of the corridor: all trains of all lines on its stations, each in its line's color, after which its headway is a band.
+// The diagram of the corridor: all trains of all lines on its stations, each in its line's color, followed by its headway as a
+// band.
 
 import { bandsOf, keptFree } from './bands.js';
 import { corridor } from './corridor.js';
@@ -17,14 +18,14 @@ import { pieceOf, timedPieces } from '../session/trains.js';
 
 const NOTE = 'A band after a train: the minutes that its headways keep free. Red: violated, with the minutes had and wanted.', REACH = 12;
 
-// The corridor as a line, whose trains are the pieces of all trains that lie on it.
+// The corridor as a line, whose trains are the pieces of all trains on it.
 const trafficOf = ({ lines }, stations) => {
   const known = new Set(stations);
   const trains = lines.flatMap(line => line.trains.flatMap(train => piecesOf(train, known).map(piece => ({ ...piece, color: line.color }))));
   return { name: 'the corridor', stations, trains };
 };
 
-// A run goes along the corridor to a neighbour, or past stations if about as many minutes lie between them.
+// A run follows the corridor to a neighbour, or past stations if about as many minutes are between them.
 const isAlong = (frame, line, events, { lower }) => {
   const [one, other] = events.map(event => line.stations.indexOf(labelOf(event).station));
   return Math.abs(one - other) < 2 || Math.abs(frame.reached[one] - frame.reached[other]) <= AS_LONG * lower;
@@ -45,7 +46,7 @@ const stopsOf = (frame, { train, minutes }) => train.events.map((event, place) =
 
 const mod = (minute, period) => ((minute % period) + period) % period;
 
-// A train: its way, wider ones that take hold of it, and its name on its longest run.
+// A train: its path, wider handles along it, and its name on its longest run.
 const drawTrain = (frame, { train, stops }, count) => {
   const d = pathsOf(frame, stops.map(({ minute, y }) => [minute, y])).join(''), minutes = stops.map(({ minute }) => minute);
   const title = drawing('title', {}, `${trainName(train)}: ${train.stations[0]} ${clock(mod(stops[0].minute, frame.period))}`);
@@ -53,7 +54,7 @@ const drawTrain = (frame, { train, stops }, count) => {
   return drawing('g', look, title, path, ...reachesOf(frame, train, minutes, REACH), ...nameOf(frame, train, stops, PARTS[count % PARTS.length]));
 };
 
-// Trains one after another have their names on other parts of their runs, since they may be on the same way.
+// Successive trains have their names on different parts of their runs, since they may be on the same path.
 const PARTS = [0.5, 0.3, 0.7];
 
 const nameOf = (frame, train, stops, share) => {
@@ -73,7 +74,7 @@ const chosenMark = (view, frame, stops) => {
   return stop ? ringAt(frame, stop.event, stop.minute, shiftText(view, stop.event)) : [];
 };
 
-// The diagram, and what it says of what is left out.
+// The diagram, and a remark on what is left out.
 const diagramOf = (view, line) => {
   const whole = frameOf(line, view.network, sizeNow('corridor')), away = new Set(line.trains.flatMap(train => leavingOf(view, whole, line, train)));
   const frame = { ...whole, away }, { page, clip } = sheetOf(frame, `Distance-time diagram of the corridor ${line.stations.join(', ')}`);

@@ -1,4 +1,4 @@
-// A picture has the whole screen, with cost and violations above it: by its box, or by F, until F or Escape.
+// Shows a picture on the whole screen, with cost and violations above it: by its box, or by F, until F or Escape.
 
 import { find } from '../base/elements.js';
 import { isField } from '../forms/fields.js';

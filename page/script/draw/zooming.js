@@ -1,4 +1,4 @@
-// Strips and pictures are zoomed and moved: by the wheel, keys, two fingers, a drag beside all trains, and buttons.
+// Zooms and moves strips and pictures: by the wheel, keys, two fingers, a drag beside all trains, and buttons.
 
 import { display } from '../session/display.js';
 import { find, setText } from '../base/elements.js';
@@ -22,14 +22,14 @@ const drawSoon = () => {
   });
 };
 
-// Where the minutes of strips or of a diagram lie on the screen, and which they are; null where none are drawn.
+// The place of the minutes of strips or of a diagram on the screen, and which they are; null if none are drawn.
 const minutesOf = name => {
   const { left, width } = find('axis').getBoundingClientRect(), [page] = find(name).children;
   if (name === STRIPS) return { left, width, ...minutesOfStrips() };
   return page ? { ...minutesOn(page), ...minutesOfDiagram() } : null;
 };
 
-// Shows so many times as much about a place of the screen; false where that changes nothing.
+// Zooms by a factor about a place of the screen; false if that changes nothing.
 const zoom = (name, factor, x, y) => {
   if (name === MAP) return zoomMap(1 / factor, x, y);
   const { left, width, first, count } = minutesOf(name), { period } = display.view.network;
@@ -37,7 +37,7 @@ const zoom = (name, factor, x, y) => {
   return zoomMinutes(factor, turns + first + count * (x - left) / width);
 };
 
-// Moves what is shown by some pixels.
+// Moves the picture by some pixels.
 const move = (name, across, down) => {
   if (name !== MAP) {
     const { width, count } = minutesOf(name);
@@ -48,7 +48,7 @@ const move = (name, across, down) => {
   return before[0] !== holder.scrollLeft || before[1] !== holder.scrollTop;
 };
 
-// The wheel scrolls the rows of strips, but for those above them and with Ctrl, and zooms where minutes lie in a picture.
+// The wheel scrolls the rows of strips, except those above them and with Ctrl, and zooms above the minutes of a picture.
 const isZooming = (name, event) => {
   if (name === MAP) return !event.shiftKey;
   if (name === STRIPS) return event.ctrlKey || event.shiftKey || Boolean(event.target.closest('#axis'));
@@ -59,7 +59,7 @@ const isZooming = (name, event) => {
 const wheel = (name, event) => {
   if (!isZooming(name, event)) return;
   const unit = event.deltaMode ? 16 : 1, across = event.shiftKey ? event.deltaX || event.deltaY : event.deltaX;
-  // Two fingers on a plate are told as a wheel with Ctrl, in small parts.
+  // Two fingers on a touchpad arrive as a wheel with Ctrl, in small parts.
   const turn = event.ctrlKey && Math.abs(event.deltaY) < 40 ? 5 * event.deltaY : event.deltaY, isAcross = Math.abs(across) > (event.shiftKey ? 0 : Math.abs(turn));
   if (isAcross && name === MAP) return;
   const isDone = isAcross ? move(name, across * unit, 0) : zoom(name, Math.exp(turn * unit / FULL_WHEEL), event.clientX, event.clientY);
@@ -73,7 +73,7 @@ const spanOf = ([one, other]) => ({
   apart: Math.max(LEAST_APART, Math.hypot(one.clientX - other.clientX, one.clientY - other.clientY)),
 });
 
-// Two fingers zoom and move; what one of them did before is left.
+// Two fingers zoom and move; what one of them did before is cancelled.
 const pinch = (name, start) => {
   if (start.touches.length !== 2 || (name !== STRIPS && !find(name).firstElementChild)) return;
   find(name).dispatchEvent(new PointerEvent('pointercancel', { bubbles: true }));
@@ -85,14 +85,14 @@ const pinch = (name, start) => {
     before = now;
     if (isZoom || isMove) drawSoon();
   };
-  // What was touched may go away as it is drawn again, and is told of its fingers all the same.
+  // A touched element may be removed when it is drawn again, and still receives the events of its fingers.
   for (const target of targets) {
     target.addEventListener('touchmove', follow, { signal });
     for (const end of ['touchend', 'touchcancel']) target.addEventListener(end, () => ending.abort(), { signal });
   }
 };
 
-// A drag beside all trains moves what is zoomed; a finger scrolls the netgraph as it does all else.
+// A drag beside all trains moves a zoomed picture; a finger scrolls the netgraph like everything else.
 const slide = (name, event) => {
   if (event.button !== 0 || event.target.closest('.reach') || (name === MAP ? isFinger(event) : !isZoomed() || !minutesOf(name))) return;
   const holder = find(name), ending = new AbortController(), { signal } = ending, start = [event.clientX, event.clientY];
@@ -109,7 +109,7 @@ const slide = (name, event) => {
   const end = () => {
     ending.abort();
     if (!isMoved) return;
-    // What lies below the pointer moved with it, and is not clicked.
+    // The element below the pointer moved with it, and is not clicked.
     const stop = each => each.stopPropagation();
     holder.addEventListener('click', stop, { capture: true });
     setTimeout(() => holder.removeEventListener('click', stop, { capture: true }));
@@ -117,7 +117,7 @@ const slide = (name, event) => {
   for (const each of ['pointerup', 'pointercancel']) window.addEventListener(each, end, { signal });
 };
 
-// Zooms what is shown about the time of the chosen event, or about the middle.
+// Zooms about the time of the chosen event, or about the middle.
 const zoomShown = (name, factor) => {
   if (name === MAP) {
     const { left, top, width, height } = find(MAP).getBoundingClientRect();
@@ -135,7 +135,7 @@ const KEYS = {
   '+': name => zoomShown(name, 1 / STEP), '=': name => zoomShown(name, 1 / STEP), '-': name => zoomShown(name, STEP), 0: showEverything,
 };
 
-// In a picture keys alone, and on strips, where they do something else, with Alt.
+// In a picture the keys alone, and on strips, where they have another meaning, with Alt.
 const typed = event => {
   const name = [...OF_MINUTES, MAP].find(each => find(each).contains(event.target));
   if (!name || !(event.key in KEYS) || event.ctrlKey || event.metaKey || isField(event.target) || (name === STRIPS && !event.altKey)) return;
@@ -145,7 +145,7 @@ const typed = event => {
   redraw();
 };
 
-// What the buttons zoom.
+// The target of the buttons.
 const pictureNow = () => isTab(MAP) ? MAP : DIAGRAMS[0];
 
 const press = key => () => {
@@ -159,7 +159,7 @@ const rangeText = () => {
   return isZoomed() ? [first, first + count].map(minute => clock(Math.round(minute) % period)).join('–') : '';
 };
 
-// The time of the chosen event that was shown is shown where it is moved on.
+// If the time of the chosen event was visible, it stays visible when it moves.
 const follow = ({ times }) => {
   const event = display.chosen, time = times.get(event), isMoved = last.event === event && last.time !== time && time !== undefined && last.time !== undefined && isShown(last.time);
   last = { event, time };
@@ -180,7 +180,7 @@ export const startZooming = () => {
     const holder = find(name);
     holder.addEventListener('wheel', event => wheel(name, event), { passive: false });
     holder.addEventListener('touchstart', event => pinch(name, event), { passive: true });
-    // A browser scrolls by two fingers where this is not refused.
+    // A browser scrolls by two fingers unless this is prevented.
     holder.addEventListener('touchmove', event => event.touches.length === 2 && event.cancelable && event.preventDefault(), { passive: false });
     if (name !== STRIPS) holder.addEventListener('pointerdown', event => slide(name, event));
   }

@@ -1,11 +1,11 @@
-// A folder in one file: archives of the kind zip, written without compression, and read with or without it. What one has is counted
-// before any of it is unpacked.
+// A folder in one file: zip archives, written without compression, and read with or without it. The contents are counted before
+// any of them is unpacked.
 
-// A file has no more bytes than the program reads of one, and all files of an archive together have four times as many.
+// A file has no more bytes than the program reads from one, and all files of an archive together have at most four times as many.
 export const MOST_BYTES = 67108864;
 export const MOST_UNPACKED = 4 * MOST_BYTES;
 export const MOST_FILES = 1000;
-// The marks of a file, of its entry and of the end, and the bytes of the longest end.
+// The signatures of a file, of its entry and of the end, and the bytes of the longest end.
 const FILE = 0x04034b50, ENTRY = 0x02014b50, END = 0x06054b50, LONGEST_END = 22 + 65535;
 const AT_ONCE = 64;
 
@@ -15,14 +15,14 @@ const TABLE = Uint32Array.from({ length: 256 }, (_, byte) => {
   return value;
 });
 
-// The checksum of bytes, or of those after others that have one.
+// The checksum of bytes, or of those after others with a known one.
 export const checksum = (bytes, before = 0) => {
   let value = ~before;
   for (let place = 0; place < bytes.length; place += 1) value = TABLE[(value ^ bytes[place]) & 255] ^ (value >>> 8);
   return ~value >>> 0;
 };
 
-// Numbers with their widths in bytes, the least byte first.
+// Numbers with their widths in bytes, the least significant byte first.
 const bytesOf = (value, width) => Array.from({ length: width }, (_, place) => (value >>> (8 * place)) & 255);
 const packed = (...numbers) => Uint8Array.from(numbers.flatMap(([value, width]) => bytesOf(value, width)));
 
@@ -45,8 +45,8 @@ export const zipOf = files => {
   return new Blob([...chunks, ...listed, end], { type: 'application/zip' });
 };
 
-// The bytes of a stream as a blob, with their number and their checksum; null where they are more than they may be: no more than
-// that is ever unpacked.
+// The bytes of a stream as a blob, with their number and their checksum; null if they are more than allowed: no more than that
+// is ever unpacked.
 const gathered = async (stream, most) => {
   const reader = stream.getReader(), blobs = [], chunks = [];
   let length = 0, sum = 0;
@@ -71,7 +71,7 @@ const damagedAt = name => fault(`${name} is damaged`);
 
 const viewOf = async (blob, start, end) => new DataView(await blob.slice(Math.max(0, start), end).arrayBuffer());
 
-// The list of what an archive has. Raises Error where it is none.
+// The directory of an archive. Raises Error if there is none.
 const listOf = async file => {
   const end = await viewOf(file, file.size - LONGEST_END, file.size);
   let place = end.byteLength - 22;
@@ -81,7 +81,7 @@ const listOf = async file => {
   return { count: end.getUint16(place + 10, true), list: await viewOf(file, start, start + end.getUint32(place + 12, true)) };
 };
 
-// An entry of the list, and where the next one begins; null where there is none.
+// An entry of the directory, and the start of the next one; null if there is none.
 const entryAt = (list, place) => {
   if (place + 46 > list.byteLength || list.getUint32(place, true) !== ENTRY) return null;
   const [method, named, extra, comment] = [10, 28, 30, 32].map(at => list.getUint16(place + at, true));
@@ -91,7 +91,7 @@ const entryAt = (list, place) => {
   return { name, method, sum, packedLength, length, start, next };
 };
 
-// The files of an archive, counted and added up before one is unpacked. Raises Error where they are more, or longer, than may be.
+// The files of an archive, counted and summed before one is unpacked. Raises Error if they are more, or longer, than allowed.
 const entriesOf = async (file, { files, bytes }) => {
   const { count, list } = await listOf(file), entries = [];
   let unpacked = 0, packedTogether = 0;
@@ -106,12 +106,12 @@ const entriesOf = async (file, { files, bytes }) => {
     if (entries.length > files) throw fault(`there are more than ${MOST_FILES.toLocaleString('en')}`);
   }
   if (unpacked > bytes) throw fault(`its files have more than ${MOST_UNPACKED.toLocaleString('en')} bytes together`);
-  // Files that share bytes would be more to read than the archive is long.
+  // Files that share bytes could unpack to more than the archive's length suggests.
   if (packedTogether > file.size) throw fault('its list is damaged');
   return entries;
 };
 
-// What stands in an archive for a file. Raises Error.
+// The contents of a file in an archive. Raises Error.
 const packedOf = async (file, { name, method, start, packedLength }) => {
   if (method !== 0 && method !== 8) throw fault(`${name} is packed in a way that is not known here`);
   const head = await viewOf(file, start, start + 30);
@@ -122,7 +122,7 @@ const packedOf = async (file, { name, method, start, packedLength }) => {
 };
 
 const unpackedOf = async (file, entry) => {
-  // Nothing has no checksum, and need not be looked for.
+  // An empty file has no checksum, and need not be read.
   if (!entry.length && !entry.packedLength && !entry.sum) return { blob: new Blob([]), length: 0, sum: 0 };
   const blob = await packedOf(file, entry);
   try {
@@ -132,8 +132,8 @@ const unpackedOf = async (file, entry) => {
   }
 };
 
-// The files of an archive: each a name with its blob, or with null where it has more bytes than a file may have; and their bytes
-// together. Raises Error where it is no archive, or is damaged, or its files are more or longer together than `room` says.
+// The files of an archive: each a name with its blob, or with null if it has more bytes than a file may have; and their total
+// bytes. Raises Error if it is not an archive, or is damaged, or its files are more or longer together than `room` allows.
 export const unzip = async (file, room = { files: MOST_FILES, bytes: MOST_UNPACKED }) => {
   const files = [], entries = await entriesOf(file, room);
   for (const entry of entries) {

@@ -1,19 +1,20 @@
-// Files of other forms, brought into the one that the program and the page read: UTF-8, with semicolons or commas between
-// fields, and points in numbers. What was converted is told. The file itself stays as it is. Texts come and go in parts.
+// Converts files of other forms into the one that the program and the page read: UTF-8, with semicolons or commas between
+// fields, and points in numbers. Each conversion is reported. The file itself does not change. Texts are processed in
+// parts.
 
 import { encodingOf, textsIn } from './decoding.js';
 import { quoted } from '../base/labels.js';
 import { fieldsIn, recordAt, rowsOfParts } from '../base/records.js';
 
-// How many columns of numbers a file has, and the first of them in which a decimal comma can stand.
+// How many columns of numbers a file has, and the first of them that can have a decimal comma.
 const COLUMNS = { activities: [6, 3], fixed: [2, 1], times: [2, 1], windows: [3, 1] };
 const OF_ROWS = [...Object.keys(COLUMNS), 'places', 'labels'];
 const WORDS = { 'utf-16le': 'read as UTF-16', 'utf-16be': 'read as UTF-16', 'windows-1252': 'read as Windows-1252' };
-// No number is so long, and no row of numbers.
+// No number is this long, and no row of numbers.
 const LONG = 1 << 20, LONGEST_ROW = 10000;
 
-// What looks through a text for tabs between fields of its first row, which is neither blank nor a comment; beside commas and
-// semicolons they are blanks. It returns null where that is not known yet.
+// Searches a text for tabs between fields of its first row, which is neither blank nor a comment; beside commas and
+// semicolons they are blanks. It returns null if that is not yet known.
 const tabsFinder = () => {
   let isRow = false, isComment = false, isFilled = false, isTab = false, isFound = false;
   return letter => {
@@ -33,10 +34,10 @@ const tabsFinder = () => {
   };
 };
 
-// No more letters of the first rows are looked at than these.
+// No more letters of the first rows are read than these.
 const MOST_LOOKED_AT = 1 << 20;
 
-// Whether tabs stand between the fields of a text.
+// Whether tabs separate the fields of a text.
 const isTabbed = texts => {
   const look = tabsFinder();
   let looked = 0, last = null;
@@ -48,10 +49,10 @@ const isTabbed = texts => {
   return last === null ? look('\n') === true : last;
 };
 
-// What has been cut by tabs has semicolons, and may have commas.
+// A text that was split by tabs has semicolons, and may have commas.
 const CUT = { hasSemicolon: true, hasComma: true };
 
-// Whether semicolons stand in a text, and commas between digits.
+// Whether a text has semicolons, and commas between digits.
 const marksIn = texts => {
   let hasSemicolon = false, hasComma = false, before = '';
   for (const text of texts) {
@@ -62,32 +63,32 @@ const marksIn = texts => {
   return { hasSemicolon, hasComma };
 };
 
-// A field, or the beginning of one that is longer than any may be, and is refused with its mark.
+// A field, or the beginning of one that is longer than allowed, and is refused by its mark.
 const shortened = field => field.length > LONGEST_ROW ? `${field.slice(0, LONGEST_ROW)}…` : field;
 
-// The row of a record; a blank one and a comment count as records too, and stay.
+// The row of a record; a blank one and a comment count as records too, and remain.
 const rowOf = (fields, change) => {
   while (fields.length && fields[fields.length - 1] === '') fields.pop();
   if (!fields.length) return ' ';
   return fields[0].startsWith('#') ? '#' : change(fields).map(field => quoted(shortened(field))).join(';');
 };
 
-// The text with semicolons, and other fields in each of its records, whose numbers stay.
+// The text with semicolons, and changed fields in each of its records, whose numbers remain.
 const rewritten = function* (texts, separator, change = fields => fields) {
   for (const records of fieldsIn(texts, separator)) yield records.map(fields => `${rowOf(fields, change)}\n`).join('');
 };
 
 const DECIMALS = /((?:^|[;\r\n])[ \t]*"?[+-]?[0-9]+),([0-9]+)(?="?[ \t]*(?:[;\r\n]|$))/g;
-// A station may be named by a number, and places have no thousands.
+// The name of a station may be a number, and places have no thousands.
 const OF_PLACES = /(;[ \t]*"?[+-]?[0-9]+),([0-9]+)(?="?[ \t]*(?:[;\r\n]|$))/g;
 
-// A comma before three digits may stand for thousands; nothing tells which it is.
+// A comma before three digits may separate thousands; nothing decides which it is.
 const isOfThousands = (whole, digits) => digits.length === 3 && /(?:^|[^0-9])[1-9][0-9]{0,2}$/.test(whole.slice(-5));
 
 const isOfZeros = digits => digits === '0' || /^0+$/.test(digits);
 
-// The text in parts, each of which but the first begins with one of the marks that end a field. One that is longer than any number
-// is cut.
+// The text in parts, each of which except the first begins with one of the marks that end a field. One that is longer than any
+// number is split.
 const fieldsTogether = function* (texts, marks) {
   let rest = '';
   for (const text of texts) {
@@ -100,7 +101,7 @@ const fieldsTogether = function* (texts, marks) {
   yield rest;
 };
 
-// `tell` is called where a number has another form than before.
+// `tell` is called when a number had another form.
 const withPoints = function* (texts, isOfPlaces, tell) {
   for (const text of fieldsTogether(texts, ';\r\n')) {
     const made = text.replace(isOfPlaces ? OF_PLACES : DECIMALS, (all, whole, digits) => {
@@ -112,7 +113,7 @@ const withPoints = function* (texts, isOfPlaces, tell) {
   }
 };
 
-// Numbers in quotes, each without a decimal comma before zeros. What a part may have just begun goes to the next one.
+// Numbers in quotes, each without a decimal comma before zeros. The possibly incomplete end of a part goes to the next one.
 const withoutZeros = function* (texts, tell) {
   let rest = '';
   for (const text of texts) {
@@ -135,7 +136,7 @@ const withoutZeros = function* (texts, tell) {
 const WHOLES = /((?:^|[;,\r\n])[ \t]*"?[+-]?[0-9]+)[.]0+(?="?[ \t]*(?:[;,\r\n]|$))/g;
 const CLOCKS = /((?:^|[;,\r\n])[ \t]*"?)([0-9]{1,4}):([0-5][0-9])(?="?[ \t]*(?:[;,\r\n]|$))/g;
 
-// Numbers without points before zeros, and times of the clock as minutes; `tell` is called with the word on each that is there.
+// Numbers without points before zeros, and clock times as minutes; `tell` is called with the word for each that occurs.
 const withMinutes = function* (texts, tell) {
   for (const text of fieldsTogether(texts, ';,\r\n')) {
     const whole = text.replace(WHOLES, '$1'), made = whole.replace(CLOCKS, (_, before, hours, minutes) => `${before}${60 * hours + Number(minutes)}`);
@@ -150,7 +151,7 @@ const isLongRow = text => text.length > LONGEST_ROW && recordAt(text.slice(0, LO
 
 const isNumber = field => /^[+-]?[0-9]+$/.test(field);
 
-// The column whose decimal comma cuts it in two among commas, where it is the one that can be, in all rows; 0 where none is.
+// The column whose decimal comma splits it in two among commas, if it is the only possible one, in all rows; otherwise 0.
 const cutColumn = (texts, [count, first]) => {
   const [head = ''] = texts();
   if (isLongRow(head)) return 0;
@@ -162,7 +163,7 @@ const cutColumn = (texts, [count, first]) => {
   return columns && columns.length === 1 ? columns[0] : 0;
 };
 
-// The text with points in its numbers; null where none has a comma that can be one.
+// The text with points in its numbers; null if none has a decimal comma.
 const mended = (texts, kind, isCut, tell) => {
   const { hasSemicolon, hasComma } = isCut ? CUT : marksIn(texts());
   if (!hasComma) return null;
@@ -174,7 +175,7 @@ const mended = (texts, kind, isCut, tell) => {
   return rewritten(texts(), ',', fields => fields.filter((_, place) => place !== column + 1 || fields.length === count));
 };
 
-// Gives the text of a file of a kind to `write`, part by part, and returns what was converted to read it.
+// Passes the text of a file of a kind to `write`, part by part, and returns the conversions that were made.
 export const convert = (kind, source, write) => {
   const encoding = encodingOf(source), notes = WORDS[encoding] ? [WORDS[encoding]] : [], isOfRows = OF_ROWS.includes(kind);
   const given = () => textsIn(source, encoding), isCut = isOfRows && isTabbed(given()), texts = isCut ? () => rewritten(given(), '\t') : given;

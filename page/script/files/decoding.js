@@ -1,11 +1,11 @@
-// The text of a file, part by part, so that a long file wants no more room than a short one, and how it is written. A source has
-// `size`, and `read`, which gives the bytes from one place to before another.
+// The text of a file, part by part, so that a long file needs no more memory than a short one, and its encoding. A source has
+// `size`, and `read`, which returns the bytes from one place up to another.
 
 const LOOKED_AT = 200, PART = 1 << 15;
 
 export const sourceOf = bytes => ({ size: bytes.length, read: (start, end) => bytes.subarray(start, end) });
 
-// In a Worker alone.
+// Only in a Worker.
 export const sourceOfBlob = blob => {
   const reader = new FileReaderSync();
   return { size: blob.size, read: (start, end) => new Uint8Array(reader.readAsArrayBuffer(blob.slice(start, end))) };
@@ -20,14 +20,15 @@ const isUtf16 = (bytes, byte) => {
   return count(byte) > some.length / 4 && count(1 - byte) === 0;
 };
 
-// How a text is written, where that is not UTF-8: by its mark, or by where zeros stand in it.
+// The encoding of a text other than UTF-8: by its byte order mark, or by the places of its zeros.
 const utf16Of = bytes => {
   const mark = bytes[0] * 256 + bytes[1];
   if (mark === 0xfffe || isUtf16(bytes, 1)) return 'utf-16le';
   return mark === 0xfeff || isUtf16(bytes, 0) ? 'utf-16be' : '';
 };
 
-// The text in an encoding. A mark stays in UTF-8, which the program reads too. Raises TypeError where `fatal` and it is none of it.
+// The text in an encoding. A byte order mark stays in UTF-8, which the program reads too. Raises TypeError if `fatal` and the
+// bytes are invalid.
 export const textsIn = function* (source, encoding, fatal = false) {
   const decoder = new TextDecoder(encoding, { ignoreBOM: encoding === 'utf-8', fatal });
   for (const bytes of bytesIn(source)) yield decoder.decode(bytes, { stream: true });
@@ -49,8 +50,8 @@ const hasZeros = source => {
   return false;
 };
 
-// What has zeros is no text, and is read as the program reads it: UTF-8 keeps the digits, and a byte that is no UTF-8 is none of a
-// number either.
+// Bytes with zeros are not text, and are read like the program reads them: UTF-8 keeps the digits, and an invalid byte is not
+// part of a number either.
 export const encodingOf = source => {
   const utf16 = utf16Of(source.read(0, Math.min(LOOKED_AT, source.size)));
   return utf16 || (isUtf8(source) || hasZeros(source) ? 'utf-8' : 'windows-1252');

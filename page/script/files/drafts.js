@@ -1,5 +1,5 @@
-// Drafts: what is not saved, kept in the browser where the planner says so, and offered when the page is opened the next time.
-// Each page writes one of its own, which it holds as long as it is open; of one that another page holds it opens a copy.
+// Drafts: unsaved work, kept in the browser if the planner agrees, and offered when the page is opened the next time. Each
+// page writes its own, which it holds as long as it is open; of a draft that another page holds it opens a copy.
 
 import { display } from '../session/display.js';
 import { beginsEdit } from '../base/edits.js';
@@ -12,14 +12,14 @@ import { linesOfStep, session } from '../session/session.js';
 import { openTexts } from './texts.js';
 
 const CHOICE = 'pespbench-keep', KEY = 'pespbench-draft-', DELAY = 300, MOST_STEPS = 100000;
-// What a draft may have for its network; no file of commands is among them, which could search.
+// The parts of a draft's network; it has no file of commands, which could search.
 const FILES = ['activities', 'fixed', 'windows', 'events', 'times', 'period', 'labels', 'places'];
-// A page that was left lets its draft go a little later.
+// A page that was closed releases its draft slightly later.
 const PATIENCE = 250;
 const LINE = /^[a-z]+ [^\r\n]{1,4000}$/;
 let own = '', letOwnGo = null, waiting = 0, fault = '';
 
-// What the browser keeps by a key; a browser may refuse that as a whole, or lack the room.
+// The values that the browser keeps by a key; a browser may refuse that completely, or lack the room.
 const store = {
   read: key => localStorage.getItem(key),
   write: (key, text) => localStorage.setItem(key, text),
@@ -43,7 +43,7 @@ const draftNow = () => {
   return JSON.stringify({ title: opened.title, at: Date.now(), files, labels, ...kept });
 };
 
-// Writes the draft, or takes it away where all is saved. A refusal is told once.
+// Writes the draft, or removes it if all is saved. A refusal is reported once.
 const keep = () => {
   clearTimeout(waiting);
   if (!isKept() || !session.opened) return;
@@ -59,7 +59,7 @@ const keep = () => {
   tell();
 };
 
-// Not while something is dragged, since a large network takes its time.
+// Not while something is dragged, since a large network takes time.
 const keepSoon = () => {
   clearTimeout(waiting);
   waiting = setTimeout(keep, DELAY);
@@ -67,7 +67,7 @@ const keepSoon = () => {
 
 export const draftsPanel = { update: keepSoon };
 
-// A draft as it was written; null where a key has something else.
+// A draft as it was written; null if a key has something else.
 const draftOf = key => {
   try {
     const { title, at, files, labels, steps, titles = [] } = JSON.parse(store.read(key));
@@ -91,7 +91,7 @@ const goOnWith = (key, letGo) => {
   [own, letOwnGo] = [key, letGo];
 };
 
-// Shows a draft, whose steps are done with its own network; where one is refused nothing has changed. Raises Error.
+// Shows a draft, whose steps are done with its own network; if one is refused nothing has changed. Raises Error.
 const show = draft => {
   if (!draft) throw new Error('it cannot be read');
   // Names alone are a step without lines.
@@ -99,8 +99,7 @@ const show = draft => {
   openTexts(draft.files, draft.title, undefined, { steps, labels: readLabels(draft.labels) });
 };
 
-// Shows a draft in the place of what is open, and goes on with it as the draft of this page, or with a copy where another page
-// holds it.
+// Replaces the open network by a draft, and continues it as the draft of this page, or as a copy if another page holds it.
 const openDraft = async (key, button) => {
   const letGo = await takeHold(key), draft = draftOf(key);
   if (!isSaved() && !button.dataset.asked) {
@@ -134,7 +133,7 @@ const row = (key, isHeld) => {
   return element('p', {}, wordOf(draft, isHeld), open, drop);
 };
 
-// The drafts that other pages hold now, each of which is listed anew once it is free.
+// The drafts that other pages hold now, each of which is listed again once it is free.
 const awaited = new Set();
 const awaitFree = key => {
   if (awaited.has(key)) return;
@@ -189,6 +188,6 @@ export const startDrafts = async () => {
     if (await isSomeHeld()) await new Promise(done => { setTimeout(done, PATIENCE); });
     await list();
   } catch (refusal) {
-    // Nothing was ever kept where nothing can be.
+    // If nothing can be kept, nothing was ever kept.
   }
 };

@@ -1,4 +1,4 @@
-// The files of the state that is shown, in the forms that the program and the Python package read, and which of them were saved.
+// The files of the state shown, in the forms that the program and the Python package read, and which of them were saved.
 
 import { display } from '../session/display.js';
 import { labelsText, placesText } from '../base/labels.js';
@@ -7,7 +7,7 @@ import { trimmed } from '../base/records.js';
 import { session } from '../session/session.js';
 
 const FORBIDDEN = /[\\/:*?"<>|\u0000-\u001f\u007f]+/g;
-// Of a longer title no more is looked at.
+// Of a longer title no more is used.
 const MOST_OF_A_TITLE = 1000;
 const HEADERS = {
   activities: 'activity; from; to; lower; upper; weight', fixed: 'event; time', windows: 'event; first; length', events: 'event',
@@ -26,24 +26,24 @@ export const filesOf = (network, times, labels = display.labels) => {
   return files;
 };
 
-// The name that a folder and its archive have: what no system takes in a name of a file is left out.
+// The name of a folder and its archive: without characters that some system forbids in file names.
 export const folderName = () => trimmed(session.opened.title.slice(0, MOST_OF_A_TITLE).replace(FORBIDDEN, '-'), code => /[\s.-]/.test(String.fromCharCode(code)))
   .slice(0, 100).trim() || 'network';
 
 // The files of a folder, by their paths in it.
 export const folderFiles = files => Object.fromEntries(Object.entries(files).map(([name, text]) => [`${folderName()}/${name}`, text]));
 
-// The texts of files that were given last, of the network that was open then.
+// The texts of the files saved last, of the network that was open then.
 let saved = { opened: null, files: new Map() };
 
 const savedNow = () => saved.opened === session.opened ? saved.files : new Map();
 
-// Some files were given, beside those that were before.
+// Some files were saved, in addition to earlier ones.
 export const noteSaved = files => {
   saved = { opened: session.opened, files: new Map([...savedNow(), ...Object.entries(files)]) };
 };
 
-// What is shown is saved where each of its files is the one that was given last, or that was opened.
+// The state shown is saved if each of its files is the one that was saved last, or that was opened.
 export const isSaved = () => {
   const { opened } = session, given = savedNow();
   if (!session.steps.length && !given.size) return true;

@@ -1,6 +1,6 @@
-// Files of forms that are not read here, and what to do with them.
+// Files of forms that the page does not read, and what to do with them.
 
-// How the files of spreadsheets begin: archives, and older ones of their own.
+// The first bytes of the files of spreadsheets: archives, and older forms of their own.
 const SHEETS = [[0x50, 0x4b, 3, 4], [0xd0, 0xcf, 0x11, 0xe0]];
 
 const isSheet = async blob => {
@@ -8,7 +8,7 @@ const isSheet = async blob => {
   return SHEETS.some(mark => mark.every((byte, place) => head[place] === byte));
 };
 
-// The names of those among some files that a spreadsheet has written in its own form.
+// The names of those among some files that are in a spreadsheet's own form.
 export const sheetsAmong = async files => {
   const names = [];
   for (const { name, blob } of files) if (blob && await isSheet(blob)) names.push(name);

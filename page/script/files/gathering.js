@@ -1,4 +1,4 @@
-// The files that were dropped or chosen, each a name with its blob: those below a folder and in an archive too.
+// The dropped or chosen files, each a name with its blob, including those in folders and archives.
 
 import { MOST_BYTES, MOST_FILES, MOST_UNPACKED, unzip } from './archive.js';
 
@@ -8,7 +8,7 @@ const checkCount = count => {
   if (count > MOST_FILES) throw new Error(`there are more than ${MOST_FILES.toLocaleString('en')}`);
 };
 
-// All of them; null for a blob that has more bytes than a file may have. Raises Error with what is shown.
+// All of them; null for a blob that has more bytes than a file may have. Raises Error with the text to show.
 export const blobsOf = async given => {
   const found = [];
   let left = MOST_UNPACKED;
@@ -28,7 +28,7 @@ export const blobsOf = async given => {
 
 const named = (file, path) => new File([file], path);
 
-// The files below a folder, of which a browser tells in one of two ways. To a page from disk Chromium gives just the first.
+// The files in a folder, which a browser provides in one of two ways. To a page from disk Chromium provides only the first.
 const belowHandle = async (handle, path) => {
   if (handle.kind === 'file') return [named(await handle.getFile(), path)];
   const found = [];
@@ -49,7 +49,7 @@ const belowEntry = async entry => {
   return found;
 };
 
-// The files of what was dropped. What is asked of an item is asked before anything is waited for: it is empty afterwards.
+// The dropped files. All properties of an item are read before anything is awaited: it is empty afterwards.
 export const droppedFiles = async items => {
   const dropped = [...items].filter(item => item.kind === 'file').map(item => {
     const entry = item.webkitGetAsEntry && item.webkitGetAsEntry();

@@ -1,4 +1,4 @@
-// Hands a network over: the name under which it is saved, and a link that has it.
+// Hands a network over: the name under which it is saved, and a link that contains it.
 
 import { find, setText } from '../base/elements.js';
 import { filesToSave, folderFiles } from './filing.js';
@@ -15,7 +15,7 @@ const tell = (text, isAlarm = false) => {
   find('link-told').classList.toggle('alarm', isAlarm);
 };
 
-// Whether the browser took a text to be pasted elsewhere.
+// Whether the browser copied a text.
 const isCopied = async field => {
   field.select();
   try {
@@ -40,7 +40,7 @@ const copyLink = async () => {
   return tell(`${word}: a link of ${field.value.length.toLocaleString('en')} letters with the network in it. ${where}`);
 };
 
-// Shows the name, and no link of before.
+// Shows the name, and no earlier link.
 export const showHanding = () => {
   find('saving-name').value = session.opened.title;
   Object.assign(find('link-text'), { value: '', hidden: true });
@@ -50,7 +50,7 @@ export const showHanding = () => {
 export const startHanding = () => {
   const name = find('saving-name');
   name.addEventListener('change', nameIt);
-  // Escape leaves the name as it was.
+  // Escape restores the name.
   find('saving').addEventListener('cancel', () => { name.value = session.opened.title; });
   name.addEventListener('keydown', event => {
     if (event.key !== 'Enter') return;

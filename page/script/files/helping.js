@@ -1,4 +1,4 @@
-// What a file has that a fault comes from where it was not converted, and what mends it.
+// The cause of a fault in a file that was not converted, and its remedy.
 
 import { HELP_WITH_SHEETS } from './forms.js';
 import { fieldsIn } from '../base/records.js';
@@ -7,13 +7,13 @@ const FAULT = /^(\w+) file, record ([0-9]+): /;
 const TABS = 'Tabs stand between its fields. Save it with semicolons between them, or with commas.';
 const DECIMAL = 'It has decimal commas. Write whole numbers, as 2, or with a point, as 2.0.';
 
-// Among semicolons a decimal comma stands in a field; among commas it makes one field more of numbers.
+// Among semicolons a decimal comma is in a field; among commas it splits a number into two fields.
 const hasDecimalComma = (fields, hasSemicolon, kind) => hasSemicolon ? fields.some(field => /^[+-]?[0-9]+,[0-9]+$/.test(field))
   : fields.length > (kind === 'activities' ? 6 : 2) && fields.every(field => /^[+-]?[0-9]+$/.test(field.trim()));
 
 const thousandsIn = fields => fields.find(field => /^[+-]?[1-9][0-9]{0,2},[0-9]{3}$/.test(field));
 
-// The fields of a record by its number; null where there is none.
+// The fields of a record by its number; null if there is none.
 const fieldsOf = (texts, hasSemicolon, number) => {
   let left = number;
   for (const records of fieldsIn(texts, hasSemicolon ? ';' : ',')) {
@@ -25,10 +25,10 @@ const fieldsOf = (texts, hasSemicolon, number) => {
 
 const FRACTION = /^[+-]?[0-9]+[.,][0-9]*[1-9][0-9]*$/;
 
-// The columns of a file of activities or of times that have numbers of events and activities, and after them those of minutes.
+// The columns of a file of activities or of times that have numbers of events and activities, followed by those of minutes.
 const NUMBERS = { activities: 3, times: 1, fixed: 1, windows: 1 };
 
-// What stands where a number is wanted.
+// The text in place of a number.
 const wordsFor = (kind, fields, place) => {
   const field = fields[place];
   if (FRACTION.test(field)) return `${field} is no whole number. Minutes are whole here: round it, or count half minutes, with twice the period.`;
@@ -40,7 +40,7 @@ const wordsFor = (kind, fields, place) => {
 const LONG_EVENTS = 'A file of events has their numbers alone, and just those that no activity has. If it is LinTim’s Events-periodic.giv, '
   + 'choose “not to be opened” for it, or read the whole folder by python3 -m pespbench from-lintim.';
 
-// The help for a fault in a file; '' where the file has nothing of that. `fileOf` gives the file of a kind: its `texts` one after another,
+// The help for a fault in a file; '' if no cause is found. `fileOf` returns the file of a kind: its `texts` one after another,
 // and whether it `has` a letter.
 export const helpFor = (fault, fileOf) => {
   if (fault.includes('is a spreadsheet')) return HELP_WITH_SHEETS;

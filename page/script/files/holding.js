@@ -1,15 +1,15 @@
-// Which page of this browser holds a name, so that no two write the same draft. Where a browser has no locks, no page holds any.
+// Which page of this browser holds a name, so that no two write the same draft. If a browser has no locks, no page holds any.
 
 const hasLocks = () => 'locks' in navigator;
 
-// Takes hold of a name, and gives what lets it go; null where another page holds it, or where there are no locks.
+// Holds a name, and returns the function that releases it; null if another page holds it, or without locks.
 export const takeHold = name => new Promise(done => {
   if (!hasLocks()) return done(null);
   const refused = () => done(null);
   return navigator.locks.request(name, { ifAvailable: true }, lock => lock && new Promise(letGo => { done(letGo); })).then(refused, refused);
 });
 
-// The names that some page holds.
+// The names held by any page.
 export const namesHeld = async () => {
   try {
     return new Set(hasLocks() ? (await navigator.locks.query()).held.map(({ name }) => name) : []);

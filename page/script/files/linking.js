@@ -24,7 +24,7 @@ const packed = async bytes => {
 
 const counted = number => number.toLocaleString('en');
 
-// The fragment of some files by their names. Raises Error with the word that is shown, where a link cannot have them.
+// The fragment of some files by their names. Raises Error with the text to show, if they do not fit into a link.
 export const fragmentOf = async files => {
   if (!window.CompressionStream) throw new Error('This browser cannot pack a link.');
   const bytes = new TextEncoder().encode(JSON.stringify(files));
@@ -36,7 +36,7 @@ export const fragmentOf = async files => {
 
 const DAMAGED = 'it is damaged, or not whole';
 
-// What the letters have that was packed. Raises Error.
+// The contents of packed letters. Raises Error.
 const unpacked = async (check, letters) => {
   let found = null;
   try {
@@ -49,7 +49,7 @@ const unpacked = async (check, letters) => {
   return found.blob;
 };
 
-// The files of a fragment. Raises Error with what it is not.
+// The files of a fragment. Raises Error with its fault.
 const filesOfFragment = async fragment => {
   if (fragment.length > MOST_LETTERS) throw new Error(`it has ${counted(fragment.length)} letters, and may have ${counted(MOST_LETTERS)}`);
   const [, check, letters] = /^#network=([0-9a-f]{8})\.([\w-]+)$/.exec(fragment) || [];
@@ -59,7 +59,7 @@ const filesOfFragment = async fragment => {
   return files;
 };
 
-// The files that a text tells; null where it is none of ours.
+// The files of a text; null if it is not one of this page's.
 const filesIn = text => {
   try {
     const files = Object.entries(JSON.parse(text));
@@ -69,7 +69,7 @@ const filesIn = text => {
   }
 };
 
-// The state that a link in the address has shown; the address is without it when something else is.
+// The state that the link in the address has shown; the address loses it when something else is shown.
 let linked = null;
 
 const forget = () => {
@@ -79,8 +79,8 @@ const forget = () => {
 
 export const linkingPanel = { update: () => linked && linked !== session.opened && forget() };
 
-// Opens what a link has, as its files are opened: at once where nothing is lost; names alone are asked for, since they change what is
-// open. A link that cannot be opened is refused by a word.
+// Opens the contents of a link like files: at once if nothing is lost; for names alone it asks, since they change the open
+// network. A link that cannot be opened is refused with a text.
 const openLink = async link => {
   try {
     const files = await filesOfFragment(link.slice(link.indexOf(MARK)));
@@ -100,7 +100,7 @@ const openAddress = async () => {
   else forget();
 };
 
-// A link that is pasted into the field of the dialog is opened, where another copy of the page made it too.
+// A link that is pasted into the field of the dialog is opened, even if another copy of the page made it.
 const pasted = async value => {
   if (!value.includes(MARK)) return tellOpening('This is no link of this page: it has no #network= in it.');
   const isOpened = await openLink(value.replace(/\s+/g, ''));

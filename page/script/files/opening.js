@@ -1,5 +1,5 @@
-// Opens files: dropped, chosen, or of a folder or an archive that was saved. What each file is is told by its name, and can be
-// said otherwise before it is opened. The program reads activities, fixed times and times; the page reads its own files alone.
+// Opens files: dropped, chosen, or of a folder or an archive that was saved. The kind of each file follows from its name, and
+// can be changed before it is opened. The program reads activities, fixed times and times; only the page reads its own files.
 
 import { addLabels } from '../forms/adding.js';
 import { MOST_BYTES } from './archive.js';
@@ -20,12 +20,12 @@ const KINDS = {
   activities: 'activities', fixed: 'fixed times', times: 'times', labels: 'labels', places: 'places of stations', windows: 'windows',
   events: 'events without activities', period: 'the period', lines: 'commands', nothing: 'not to be opened',
 };
-// The first of these that stands in a file's name says what the file is.
+// The first of these that occurs in a file's name determines its kind.
 const WORDS = Object.entries({
   activit: 'activities', fixed: 'fixed', timetable: 'times', times: 'times', label: 'labels', place: 'places', window: 'windows', event: 'events',
   period: 'period', line: 'lines', script: 'lines', command: 'lines', journal: 'lines',
 });
-// More bytes than these are converted by the Worker, where that can be stopped.
+// The Worker converts files with more bytes than this, which can then be stopped.
 const MOST_AT_ONCE = 2000000;
 const NAMES_ALONE = 'The link has names alone: they take the place of those that the same events and activities have here.';
 let files = [];
@@ -35,13 +35,13 @@ const kindOf = name => {
   return word ? word[1] : 'nothing';
 };
 
-// Says in the dialog what is wrong, and what mends it.
+// Shows in the dialog what is wrong, and the remedy.
 export const tellOpening = (text, help = '') => {
   setText(find('opening-fault'), text);
   setText(find('opening-help'), help);
 };
 
-// Shows the dialog, which says what would be lost.
+// Shows the dialog, which names what would be lost.
 const show = () => {
   find('opening-loss').hidden = isSaved();
   if (!find('opening').open) find('opening').showModal();
@@ -51,12 +51,12 @@ const hide = () => find('opening').open && find('opening').close();
 
 const isOpenedAtOnce = ({ isAsked, isOfLink }) => {
   const kinds = files.map(file => file.kind);
-  // Names alone are added to what is open, and lose nothing.
+  // Names alone are added to the open network, and lose nothing.
   if (kinds.join() === 'labels') return !isOfLink;
   return !isAsked && isSaved() && kinds.includes('period') && !kinds.includes('nothing') && new Set(kinds).size === kinds.length;
 };
 
-// Lists files with what each is; they are opened at once where names and the period tell all and nothing is lost.
+// Lists files with their kinds; they are opened at once if names and the period determine all and nothing is lost.
 export const offerFiles = async (given, { isAsked = false, isOfLink = false } = {}) => {
   tellOpening('');
   try {
@@ -79,7 +79,7 @@ const list = () => find('opening-files').replaceChildren(...files.map(file => {
 
 const isOfNames = some => some.map(({ kind }) => kind).join() === 'labels';
 
-// The files that are to be opened. Raises Error where they cannot be.
+// The files to open. Raises Error if they cannot be opened.
 const wanted = async () => {
   const found = files.filter(({ kind }) => kind !== 'nothing'), kinds = found.map(({ kind }) => kind);
   const hasNetwork = kinds.includes('activities') || kinds.includes('lines'), [sheet] = await sheetsAmong(hasNetwork ? found : files);
@@ -100,8 +100,8 @@ const bytesOf = async ({ name, blob }) => {
   }
 };
 
-// What the program alone reads stays bytes, which are text part by part where help is wanted: each other form of it takes as much memory
-// again. A mark stays, which the program reads too.
+// Files that only the program reads stay bytes, which become text part by part for help: each other form takes as much memory
+// again. A byte order mark stays, which the program reads too.
 const readBytes = bytes => ({ content: bytes, texts: () => textsIn(sourceOf(bytes), 'utf-8'), has: letter => bytes.includes(letter.charCodeAt(0)) });
 const readText = text => ({ content: text, texts: () => [text], has: letter => text.includes(letter) });
 
@@ -111,7 +111,7 @@ const convertShort = (file, bytes) => {
   file.read = readText(texts.join(''));
 };
 
-// The same of long files; false where it was stopped.
+// The same for long files; false if it was stopped.
 const convertByWorker = async found => {
   hide();
   const made = await convertLong(found.map(({ kind, blob }) => ({ kind, blob })));
@@ -123,7 +123,7 @@ const convertByWorker = async found => {
   return true;
 };
 
-// Gives each file its text in the form that is read here, and what was converted.
+// Sets for each file its converted text, and the conversions that were made.
 const convertAll = async found => {
   if (found.reduce((sum, { blob }) => sum + blob.size, 0) > MOST_AT_ONCE) return convertByWorker(found);
   for (const file of found) convertShort(file, await bytesOf(file));
@@ -135,7 +135,7 @@ const openConverted = (found, title, period) => {
   return isOfNames(found) ? addLabels(texts.labels) : openTexts(texts, title, period);
 };
 
-// Opens what is listed, where nothing else was done while it was read.
+// Opens the listed files, if nothing else was done while they were read.
 const openListed = async () => {
   const title = files.length ? folderOf(files[0].name) : '', { opened, place } = session, period = Number(find('opening-period').value);
   let found = [];
@@ -156,7 +156,7 @@ const openListed = async () => {
 
 const baseOf = ({ name }) => name.split('/').pop();
 
-// The folder of files is told as the title.
+// The folder of files becomes the title.
 const openedWord = found => [
   `opened: ${found.map(baseOf).join(', ')}`,
   ...found.filter(file => file.notes.length).map(file => `${baseOf(file)}: ${file.notes.join(', ')}`),
@@ -175,7 +175,7 @@ export const showOpening = () => {
   show();
 };
 
-// A network with nothing in it, which begins with a line.
+// An empty network, which begins with a line.
 const beginNew = () => {
   if (!find('opening-period').reportValidity()) return;
   try {

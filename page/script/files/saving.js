@@ -19,7 +19,7 @@ const linesFiles = () => ({
   lines: journal().map(line => `${line}\n`).join(''),
 });
 
-// Gives some of the files as one download.
+// Downloads some of the files as one.
 const give = (name, blob, given) => {
   const address = URL.createObjectURL(blob), link = element('a', { href: address, download: name });
   document.body.append(link);

@@ -1,5 +1,5 @@
-// The stories that the page can begin with. Two are those of examples/two-changes and examples/night-train; the region is the one that
-// the Python package draws from the seed 3. Tests compare them with these.
+// The stories that the page can start with. Two are those of examples/two-changes and examples/night-train; the region is the one
+// that the Python package generates from the seed 3. Tests compare them with these.
 
 export const stories = [
   {

@@ -8,10 +8,10 @@ import { openBase } from '../session/session.js';
 import { isAdopt, timesOfFile } from '../base/times.js';
 import { faultInWords } from '../session/wording.js';
 
-// Edits and lines about times; a file of lines may have questions too, which make nothing.
+// Edits and lines about times; a file of lines may also have queries, which change nothing.
 const makes = line => beginsEdit(line) || /^\s*adopt/.test(line);
 const BLANK = 32, MOST_OF_A_LINE = 4096, MOST_LINES = 1000000;
-// So many lines are played at once; more of them, and a search, where they can be stopped.
+// This many lines are played at once; more of them, and a search, run where they can be stopped.
 const MOST_AT_ONCE = 1000;
 
 const periodOf = text => {
@@ -35,23 +35,22 @@ const linesOf = text => {
   return made;
 };
 
-// Whether nothing but blanks stands in a text, or in the bytes of one.
+// Whether a text, or bytes, have only blanks.
 const isBlank = given => typeof given === 'string' ? !given.trim() : !given.some(byte => byte > BLANK);
 
-// What a run begins with that has the network of these files.
+// The first lines of a run that has the network of these files.
 const baseOf = ({ activities = '', fixed = '', times = '', events = '', windows = '' }, period, lines) => {
   if (activities.length && isBlank(activities)) throw new Error('activities file: there is nothing in it but blanks');
   const alone = numbersIn('events', events, [EVENTS]).flat();
   const held = numbersIn('windows', windows, [EVENTS, RESIDUES, RESIDUES]);
   const setup = [...alone.map(event => edit.addEvent(event).line), ...held.map(row => edit.window(...row).line), ...lines];
-  // The program leaves out times of events that it does not know yet.
+  // The program ignores times of events that do not exist yet.
   const late = alone.length ? timesOfFile({ times, period }, alone) : new Map();
   return { period, activities, fixed, times, setup: [...setup, ...timeEdits(late).map(({ line }) => line)] };
 };
 
-// Opens the texts of files by their kinds. Raises RunFault, FileFault and Error with the words that are shown. Where many
-// lines are played, or one that searches, a promise is given for it, of false where that is stopped. `again` has steps that are done
-// once more, as openBase takes them.
+// Opens the texts of files by their kinds. Raises RunFault, FileFault and Error with the texts to show. If many lines are played,
+// or one that searches, it returns a promise, of false if that is stopped. `again` has steps to repeat, as openBase accepts them.
 export const openTexts = (texts, title, period = 60, again = undefined) => {
   const given = texts.period === undefined ? period : periodOf(texts.period);
   if (!(given >= 2 && given <= 1440)) throw new Error(`period ${given}: it has to be from 2 to 1440`);

@@ -23,7 +23,7 @@ const dropEvent = event => {
   doMade(made, `${eventName(event)} dropped`);
 };
 
-// By a key: begins at the chosen event, and leads into the fields where both are chosen.
+// By a key: begins at the chosen event, and moves to the fields once both are chosen.
 export const addHere = () => {
   if (from === null) beginHere();
   else if (from !== display.chosen) find('added-kind').focus();
@@ -37,7 +37,7 @@ const beginHere = () => {
 
 const valueOf = id => minutesTyped(find(id).value);
 
-// What is wrong about a kind between two events; '' where nothing is.
+// The fault of a kind between two events; '' if there is none.
 const faultOf = kind => {
   const [one, other] = [from, display.chosen].map(event => labelOf(event).station), isApart = one && other && one !== other;
   return isApart && OF_ONE_STATION.includes(kind) ? `A ${kind} is at one station, and this leads from ${one} to ${other}. Choose another event or another kind, as “walk”.` : '';
@@ -86,14 +86,14 @@ const adding = () => {
 // A chosen event beside its name.
 const thisText = event => labelOf(event).station ? `this ${labelOf(event).kind || 'event'}` : eventName(event);
 
-// Names are the page's own; the program knows none.
+// Names are the page's own; the program has none.
 const name = () => {
   const { view, labels, chosen } = display, [line, to, station, kind] = ['line', 'to', 'station', 'kind'].map(part => find(`named-${part}`).value.trim());
   const named = { ...labels, events: new Map([...labels.events, [chosen, { line, to, station, kind }]]) };
   doStep([], { labels: named, title: `${eventName(chosen)} is ${within(view, () => eventName(chosen), named)}` });
 };
 
-// The labels of a file, beside and before those that are there.
+// The labels of a file, which replace and extend the present ones.
 export const addLabels = text => {
   const { events, kinds, cost } = readLabels(text);
   return doStep([], { labels: { ...display.labels, events: new Map([...display.labels.events, ...events]), kinds: new Map([...display.labels.kinds, ...kinds]), cost: cost || display.labels.cost } });

@@ -1,4 +1,4 @@
-// What is done with a line as a whole: it is renamed, copied, given trains an hour or a stop, and dropped. Each is one step.
+// Operations on a whole line: it is renamed, copied, given trains an hour or a stop, and dropped. Each is one step.
 
 import { display } from '../session/display.js';
 import { element, find, setText } from '../base/elements.js';
@@ -52,7 +52,7 @@ const stop = made => {
 const placeNow = () => stopPlaces(lineNow())[Number(valueOf('stop-between'))];
 const placeText = ({ one, other }) => other === null ? `beyond ${one}` : `between ${one} and ${other}`;
 
-// Beyond an end a train stops at that end, and does not run on from the new stop.
+// Beyond an end a train stops at that end, and does not continue from the new stop.
 const tellPlace = () => {
   const { one, other } = placeNow(), isEnd = other === null, field = find('stop-after');
   setText(find('stop-where'), isEnd ? `at ${one}` : 'there');

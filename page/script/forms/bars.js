@@ -25,14 +25,14 @@ export const makeBar = (line, train) => {
   return bar;
 };
 
-// A way over some minutes within the period, each once.
+// A path over some minutes within the period, each once.
 const pathOf = (minutes, period) => {
   const least = Math.min(...minutes), count = Math.max(...minutes) - least, start = 0.5 + ((least % period) + period) % period;
   if (count >= period) return `M0 .5H${period}`;
   return start + count <= period ? `M${start} .5h${count}` : `M${start} .5H${period}M0 .5H${start + count - period}`;
 };
 
-// The part of a train that is violated, and what is.
+// The part of a train with violations, and these.
 const brokenOf = (view, { steps }, minutes) => steps.map((step, place) => view.violations && view.violations.activities.has(step)
   ? pathOf(minutes.slice(place, place + 2), view.network.period) : '').join('');
 
@@ -43,7 +43,7 @@ const noteOf = (view, { events }) => {
   return [shiftText(view, events[0]), fault].filter(Boolean).join(' ');
 };
 
-// Draws what is new about a train.
+// Draws the changes of a train.
 export const drawBar = (bar, view) => {
   const { train, handle } = bar, { period } = view.network, isChosen = train.events.includes(display.chosen), note = noteOf(view, train);
   const times = train.events.map(event => view.times.get(event)), name = trainName(train, train.events[0]), drawn = `${times} ${period} ${note} ${isChosen} ${name}`;
@@ -58,14 +58,14 @@ export const drawBar = (bar, view) => {
   bar.broken.setAttribute('d', pieces.map(piece => brokenOf(view, piece.train, piece.minutes)).join(''));
   bar.stops.setAttribute('d', known.map(time => `M${time + 0.5} 0V1`).join(''));
   if (handle.hidden !== !known.length) handle.hidden = !known.length;
-  // Set just where it is another one: a browser lays out the page to see whether what has the keys can keep them.
+  // Set only if it differs: a browser lays out the page to see whether the focused element can keep the focus.
   setAttribute(handle, 'tabindex', isChosen ? 0 : -1);
   bar.node.classList.toggle('alarm', note.includes('✕'));
   setText(bar.note, note);
   tellHandle(handle, first, 0, period - 1, `${clock(first)} ${note}`);
 };
 
-// The event of a train that stands nearest to a place on its bar.
+// The event of a train that is nearest to a place on its bar.
 const nearest = ({ train, handle }, x) => {
   const { times, network: { period } } = display.view, minute = unitAt(handle, x, 0, period);
   const far = event => Math.min(...[-period, 0, period].map(shift => Math.abs(times.get(event) + shift - minute)));

@@ -1,4 +1,4 @@
-// What a step changes: the cost and the count of what is violated, beside those of the state before it.
+// The effect of a step: the cost and the number of violations, compared with the state before it.
 
 import { costMoreText } from '../session/costs.js';
 import { find, say } from '../base/elements.js';
@@ -9,7 +9,7 @@ import { countViolated } from '../base/viewing.js';
 
 let opened = null, settled = null, drawn = null, before = null;
 
-// A step of a drag is compared with the state that it began at, and any other state with the one shown before it.
+// A step of a drag is compared with the state at its start, and any other state with the one shown before it.
 const follow = view => {
   drawn = view;
   before = opened === session.opened ? settled : null;
@@ -17,7 +17,7 @@ const follow = view => {
   if (!view.isTried) settled = view;
 };
 
-// What a number of a view is more than before, either of which may be a BigInt; null where one is not known.
+// The difference of a number between two views, either of which may be a BigInt; null if one is unknown.
 const moreOf = (view, numberOf) => {
   const [now, then] = [view, before].map(each => each && numberOf(each));
   return now === null || then === null ? null : BigInt(now) - BigInt(then);
@@ -27,7 +27,7 @@ const violatedMore = view => moreOf(view, countViolated);
 
 const worded = more => more ? `${(more < 0n ? -more : more).toLocaleString('en')} ${more < 0n ? 'less' : 'more'}` : 'as before';
 
-// What stands below a figure: the change of it, or else the words that it has.
+// The text below a figure: its change, or otherwise its usual text.
 const note = (name, view, more, words) => {
   const { classList } = find(`figure-${name}`);
   classList.toggle('more', more > 0n);

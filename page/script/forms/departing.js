@@ -1,4 +1,4 @@
-// The departure of the chosen event's train, from which its other times follow by its least minutes; trains that are tied to it follow too.
+// The departure of the chosen event's train, from which its other times follow by its least minutes; tied trains follow too.
 
 import { display } from '../session/display.js';
 import { edit } from '../base/edits.js';

@@ -9,7 +9,7 @@ import { drawRow, makeRow } from './rows.js';
 import { choose, chooseAmong, redraw } from '../session/session.js';
 
 const ROWS_OF_A_BLOCK = 40;
-// The pixels that the head of the rows takes of them.
+// The pixels that the head above the rows takes.
 const HEAD = 30;
 const rows = new Map();
 let order = [], bars = [];
@@ -37,7 +37,7 @@ const build = view => {
   chooseAmong(order);
 };
 
-// Rows in blocks, of which a browser lays out those that are seen.
+// Rows in blocks, of which a browser lays out the visible ones.
 const blocks = events => {
   const made = [];
   for (let place = 0; place < events.length; place += ROWS_OF_A_BLOCK) {
@@ -56,14 +56,14 @@ const update = view => {
 
 export const eventsPanel = { build, update };
 
-// Chooses an event, whose time is shown where minutes are zoomed.
+// Chooses an event, and shows its time if minutes are zoomed.
 const chooseSeen = event => {
   const time = display.view.times.get(event), isMoved = time !== undefined && bringMinute(time);
   if (isMoved && event === display.chosen) redraw();
   choose(event);
 };
 
-// Brings the row of the chosen event to where it is seen, and the keys to it.
+// Scrolls to the row of the chosen event, and focuses it.
 export const showRow = (event, isFocused = true) => {
   chooseSeen(event);
   const row = rows.get(event);
@@ -72,7 +72,7 @@ export const showRow = (event, isFocused = true) => {
   if (isFocused) row.strip.focus({ preventScroll: true });
 };
 
-// The same for a train, whose bar gets the keys; without times it has none.
+// The same for a train, whose bar is focused; without times it has none.
 export const showBar = event => {
   const bar = bars.find(({ train }) => train.events.includes(event));
   showRow(event, !bar || bar.handle.hidden);
@@ -81,7 +81,7 @@ export const showBar = event => {
   bar.handle.focus({ preventScroll: true });
 };
 
-// The same for what is chosen elsewhere, so that nothing but the rows is scrolled; below a pointer minutes stay where they are.
+// The same for an event chosen elsewhere, so that nothing but the rows is scrolled; below a pointer minutes stay in place.
 export const bringRow = (event, isPointed = false) => {
   if (isPointed) choose(event);
   else chooseSeen(event);
@@ -92,13 +92,13 @@ export const bringRow = (event, isPointed = false) => {
   else if (bottom > seen.bottom) panel.scrollTop += bottom - seen.bottom;
 };
 
-// The row that a node lies in; null where it lies in none.
+// The row around a node; null if there is none.
 export const rowAt = node => {
   const found = node.closest('[data-row]');
   return found ? rows.get(Number(found.dataset.row)) : null;
 };
 
-// The event so many rows after another; that one itself where there is none.
+// The event this many rows further; the same one if there is none.
 export const eventBeside = (event, step) => {
   const place = order.indexOf(event) + step;
   return place >= 0 && place < order.length ? order[place] : event;

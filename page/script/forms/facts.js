@@ -1,4 +1,4 @@
-// The chosen event in words, with fields to say what holds it and when it is.
+// The chosen event in words, with fields for its window and its time.
 
 import { display } from '../session/display.js';
 import { edit } from '../base/edits.js';
@@ -12,7 +12,7 @@ const fieldOf = id => minutesField({ id, required: true });
 
 const valueOf = (id, read = clockTyped) => read(find(id).value);
 
-// The fields stay where they are, so that what is typed there is not lost when something else is drawn.
+// The fields stay in place, so that typed text is not lost when something else is drawn.
 const build = () => {
   const hold = factForm(() => doStep([edit.window(display.chosen, valueOf('hold-first'), valueOf('hold-length', minutesTyped))]),
     element('label', { for: 'hold-first' }, 'held from'), fieldOf('hold-first'),

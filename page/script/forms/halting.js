@@ -1,4 +1,4 @@
-// A stop that a line is given in both directions, between two stations or beyond one of its ends.
+// A new stop of a line in both directions, between two stations or beyond one of its ends.
 
 import { display } from '../session/display.js';
 import { edit } from '../base/edits.js';
@@ -7,7 +7,7 @@ import { labelOf } from '../session/names.js';
 import { isFirst, tie, tiedTrains } from './twins.js';
 import { minutesHad } from '../base/viewing.js';
 
-// What joins other trains at an end, or equal ones, and stays there.
+// The activities that join other trains at an end, or equal ones, and stay there.
 const STAYING = ['change', 'headway', 'twin'];
 
 // The runs of a line's trains, each with its ends, and the events after it.
@@ -30,24 +30,24 @@ const lastOf = values => values[values.length - 1];
 const endsOf = ({ stations, trains }) => [...new Set([stations[0], lastOf(stations)])]
   .filter(end => trains.some(each => each.stations.length > 1 && each.stations[0] !== lastOf(each.stations) && [each.stations[0], lastOf(each.stations)].includes(end)));
 
-// Where it can be given a stop: between `one` and `other`, or beyond `one` alone.
+// Where it can get a stop: between `one` and `other`, or beyond `one` alone.
 export const stopPlaces = line => [...pairsOf(line).map(([one, other]) => ({ one, other })), ...endsOf(line).map(one => ({ one, other: null }))];
 
-// The time of an event so many minutes later; null where it has none.
+// The time of an event this many minutes later; null if it has none.
 const timeFrom = (event, minutes) => {
   const { times, network: { period } } = display.view;
   return times.has(event) ? (((times.get(event) + minutes) % period) + period) % period : null;
 };
 
-// The new events of equal trains are tied as the others are, by the trains' first events.
+// The new events of equal trains are tied like the others, by the trains' first events.
 const tieAdded = (made, line, added) => {
   for (const train of line.trains.filter(each => added.has(each.events[0]) && isFirst(each))) {
     for (const { train: twin, minutes } of tiedTrains(train).slice(1)) tie(made, added.get(train.events[0]), added.get(twin.events[0]), minutes);
   }
 };
 
-// A run ends at the stop, after which a dwell and another run follow. Where it begins at a time, the times at the stop follow by the
-// least minutes, and a train that takes longer then is later from there on. The new events are given.
+// A run ends at the stop, followed by a dwell and another run. If it begins at a time, the times at the stop follow by the least
+// minutes, and a train that takes longer then is later from there on. Returns the new events.
 const stopIn = (made, { run, after }, spans, station) => {
   const [there, dwell, on] = spans;
   const { network: { period }, times, tensions } = display.view, { number, weight } = run, kind = display.labels.kinds.get(number);
@@ -71,7 +71,7 @@ const stopBetween = (made, line, { one, other, station, before, dwell, after }) 
   return added;
 };
 
-// A train that ends at an end of its line runs on to a station, which is where it goes to then; its new events are given.
+// A train that ends at an end of its line continues to a station, which becomes its destination; returns its new events.
 const runOn = (made, { events, steps, to }, end, spans, station) => {
   const [run, dwell] = spans;
   const last = lastOf(events), { weight } = display.view.network.activities.get(lastOf(steps)), kind = display.labels.kinds.get(lastOf(steps));
@@ -84,7 +84,7 @@ const runOn = (made, { events, steps, to }, end, spans, station) => {
   return [departure, arrival];
 };
 
-// The same of one that begins there, which comes from the station.
+// The same for one that begins there, and now comes from the station.
 const comeFrom = (made, { events: [first], steps: [step] }, spans, station) => {
   const [run, dwell] = spans, { weight } = display.view.network.activities.get(step), kind = display.labels.kinds.get(step), label = made.events.get(first), left = -Number(dwell[0]);
   const departure = addEvent(made, { ...label, station, kind: 'departure' }, timeFrom(first, left - Number(run[0])));

@@ -1,20 +1,20 @@
-// What is dragged, by a pointer or by keys. A drag shows what each of its lines would make, and its last line is one step.
+// Drags, by a pointer or by keys. A drag shows the effect of each of its lines, and its last line is one step.
 
 import { element, say, setAttribute } from '../base/elements.js';
 import { doByHand, leaveHand, showHand } from './rest.js';
 import { refresh } from '../session/session.js';
 
-// So many pixels a pointer moves before it drags, so that a click changes nothing.
+// A pointer must move this many pixels before it drags, so that a click changes nothing.
 const LEAST_MOVE = 3;
 
-// The unit of a track that lies below a place across the screen: `least` at its left end, `count` units wide.
+// The unit of a track below a horizontal place of the screen: `least` at its left end, `count` units wide.
 export const unitAt = (track, x, least, count) => {
   const { left, width } = track.getBoundingClientRect();
   return least + Math.floor((x - left) / (width || 1) * count);
 };
 
-// Follows a pointer that went down; `linesAt` gives the lines for a place across the screen, none where all stays as it was,
-// and `titleOf` what they do in words.
+// Follows a pressed pointer; `linesAt` returns the lines for a horizontal place, none if nothing changes, and `titleOf`
+// their meaning in words.
 export const beginDrag = (start, linesAt, titleOf = () => '') => {
   let last = null, frame = 0, x = start.clientX, isMoved = false;
   const look = () => {
@@ -56,11 +56,11 @@ export const beginDrag = (start, linesAt, titleOf = () => '') => {
 const ARROWS = { ArrowLeft: -1, ArrowRight: 1 };
 const PAGES = { PageDown: -10, PageUp: 10 };
 
-// By how many minutes a key moves what it is for, 0 where by none; and a handle, which keys with others do not move.
+// By how many minutes a key moves its target, 0 if it does not; and a handle, which keys with modifiers do not move.
 export const minutesOfKey = event => ARROWS[event.key] || PAGES[event.key] || 0;
 export const moveOf = event => event.ctrlKey || event.metaKey || event.altKey ? 0 : minutesOfKey(event);
 
-// A finger may be about to scroll: what it lies on is chosen by its tap, or once it drags.
+// A finger may be about to scroll: the element below it is chosen by a tap, or once it drags.
 export const isFinger = event => event.pointerType === 'touch';
 
 // An element with the role of a slider.

@@ -1,4 +1,4 @@
-// What each number is, in words, beside it: a button with a question mark opens them.
+// What each number means, in words, beside it: a button with a question mark opens them.
 
 import { costName, sentence } from '../session/costs.js';
 import { element, find, findAll, setAttribute } from '../base/elements.js';

@@ -1,4 +1,4 @@
-// A line that is typed as a table of its stops, and added as trains of one or of both directions, in one step.
+// A line that is entered as a table of its stops, and added as trains of one or of both directions, in one step.
 
 import { display } from '../session/display.js';
 import { element, find, setText } from '../base/elements.js';
@@ -24,7 +24,7 @@ export const spanOf = (text, what) => {
   return [least, most];
 };
 
-// The stops that are typed; the last has no run, and neither end a dwell. Raises Error.
+// The entered stops; the last has no run, and neither end a dwell. Raises Error.
 const stopsTyped = () => {
   const valuesOf = each => [...each.querySelectorAll('input')].map(input => [input.dataset.part, input.value.trim()]);
   const rows = [...find('stops').rows].map(each => Object.fromEntries(valuesOf(each)));
@@ -41,7 +41,7 @@ const stopsTyped = () => {
 
 const reversed = stops => [...stops].reverse().map((stop, place, all) => ({ ...stop, run: place < all.length - 1 ? all[place + 1].run : null }));
 
-// Adds a train, with times that follow from its least minutes where it leaves at a minute, and gives its events.
+// Adds a train, with times that follow from its least minutes if it has a departure, and returns its events.
 const addTrain = (made, stops, { name: line, weight }, leaves) => {
   const { station: to } = stops[stops.length - 1], events = [];
   let time = leaves;
@@ -59,7 +59,7 @@ const addTrain = (made, stops, { name: line, weight }, leaves) => {
   return events;
 };
 
-// The trains of one direction, which come at equal intervals and are tied.
+// The trains of one direction, which run at equal intervals and are tied.
 const addTrains = (made, stops, line, id) => {
   const leaves = minuteOf(find(id)), { count, minutes } = line.rhythm;
   const trains = [...Array(count).keys()].map(place => addTrain(made, stops, line, leaves === null ? null : leaves + place * minutes));

@@ -5,17 +5,17 @@ import { edit, windowEdit } from '../base/edits.js';
 import { find } from '../base/elements.js';
 import { doStep } from '../session/session.js';
 
-// A number above all that are taken.
+// A number above all that are used.
 const freeNumber = (...taken) => taken.reduce((most, keys) => [...keys].reduce((one, other) => Math.max(one, other), most), 0) + 1;
 
-// Nothing yet: the commands, those of times, which come last, the names, and the next numbers.
+// An empty step: the commands, those of times, which come last, the names, and the next numbers.
 export const beginMade = () => {
   const { network } = display.view, { events, kinds } = display.labels;
   return { edits: [], times: [], events: new Map(events), kinds: new Map(kinds),
     event: freeNumber(network.events, events.keys()), activity: freeNumber(network.activities.keys(), kinds.keys()) };
 };
 
-// Adds an event with its label, and with a time where it has one, which may lie beyond the period.
+// Adds an event with its label, and with its time if it has one, which may be beyond the period.
 export const addEvent = (made, label, time = null) => {
   made.edits.push(edit.addEvent(made.event));
   made.events.set(made.event, label);
@@ -42,8 +42,8 @@ export const dropEvents = (made, events) => {
   }
 };
 
-// Adds some events once more, so many minutes later, with what lies between them and the headways to others; `line` is the name of
-// theirs. The new events are given in the same order.
+// Copies some events, this many minutes later, with the activities between them and the headways to others; `line` is the name of
+// their line. Returns the new events in the same order.
 export const copyEvents = (made, events, minutes, line = null) => {
   const { network: { period, windows }, times } = display.view, copies = new Map();
   for (const event of events) {
@@ -59,7 +59,7 @@ export const copyEvents = (made, events, minutes, line = null) => {
   return [...copies.values()];
 };
 
-// Does it as one step. Raises Error where the program refuses a part of it, and then nothing has changed.
+// Does it as one step. Raises Error if the program refuses a part of it, and then nothing has changed.
 export const doMade = ({ edits, times, events, kinds }, title = '') => {
   if (!doStep([...edits, ...times], { title, labels: { ...display.labels, events, kinds } })) throw new Error(find('said').textContent);
 };

@@ -1,5 +1,5 @@
-// Trains are moved: the events of one, and of those tied to it, from its first or another on, get times that are so many minutes later,
-// in one step. Those without a time are left. No window stops a train: what is left is violated, and told at its place.
+// Moves trains: the events of one, and of those tied to it, from its first or another on, get times that are a number of minutes
+// later, in one step. Those without a time are skipped. No window stops a train: violations result, and are shown at their place.
 
 import { isOutside, outsideText } from '../session/conflicts.js';
 import { display } from '../session/display.js';
@@ -13,7 +13,7 @@ import { choose, redraw, timesNow } from '../session/session.js';
 import { forgetStaying, isStaying, setStaying, trainAt } from '../session/trains.js';
 import { tiedTrains } from './twins.js';
 
-// What is moved now or was last.
+// The present or last move.
 let moved = null;
 
 const stay = isKept => {
@@ -21,7 +21,7 @@ const stay = isKept => {
   redraw();
 };
 
-// So many minutes within half a period either way; a train that is moved by a period is where it was.
+// Minutes within half a period either way; a train that is moved by a period is where it was.
 const withinPeriod = minutes => {
   const { period } = display.view.network, later = ((minutes % period) + period) % period;
   return 2 * later <= period && !(2 * later === period && minutes < 0) ? later : later - period;
@@ -42,16 +42,16 @@ const title = () => {
   return `${name}${place} ${minutesText(Math.abs(minutes))} ${minutes < 0 ? 'earlier' : 'later'}`;
 };
 
-// By how much the train of an event is moved in the step of a drag that is shown, as `+3`; '' where it is not.
+// By how much the train of an event is moved in the present step of a drag, as `+3`; '' if it is not.
 export const shiftText = (view, event) => {
   if (!view.isTried || !view.title || !moved.events.includes(event)) return '';
   return `${moved.minutes < 0 ? '−' : '+'}${lengthText(Math.abs(moved.minutes))}`;
 };
 
-// With Shift, or with a box for hands that have none, a train moves from an event on.
+// With Shift, or with a box for touch screens, a train moves from an event on.
 export const wantsFromHere = event => event.shiftKey || find('from-here').checked;
 
-// Moves a train with a pointer, from an event on or as a whole; a minute is so many pixels wide.
+// Moves a train with a pointer, from an event on or as a whole; a minute is this many pixels wide.
 export const beginMove = (start, event, width, isFromHere) => {
   begun(event, isFromHere);
   beginDrag(start, x => {
@@ -71,7 +71,7 @@ export const moveTrain = (event, minutes, isFromHere) => {
   else say(`${title()}: no time changes`, true);
 };
 
-// The events of the train that a step moves that are not where they are held; '' after any other step.
+// The events of the train that a step moves out of their windows; '' after any other step.
 export const leftText = view => {
   if (!moved || view.title !== title()) return '';
   const left = moved.events.filter(event => isOutside(view, event)), more = left.length - 1;

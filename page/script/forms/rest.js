@@ -1,5 +1,5 @@
-// The rest of a timetable follows a hand, where that is ticked: beside what is dragged, or was moved by a key, all other events are where
-// the best timetable has them, or the nearest one. A Worker of its own looks for it.
+// The rest of a timetable follows a hand, if that is ticked: all events except those that are dragged, or were moved by a key,
+// have the times of the best timetable, or of the nearest one. A separate Worker searches for it.
 
 import { display } from '../session/display.js';
 import { timeEdits } from '../base/edits.js';
@@ -12,7 +12,8 @@ import { soleWorker } from '../base/workers.js';
 
 const follower = soleWorker(), NONE = { kind: '', edits: [], mode: '' };
 
-// What the hand does now, null where nothing, with what was shown before and the rest that is shown with it; and what was found last.
+// The hand's present action, null if there is none, with the state shown before it and the rest shown with it; and the last
+// result.
 let hand = null, last = NONE, hear = () => {};
 
 export const hearRest = listener => { hear = listener; };
@@ -24,7 +25,7 @@ const WHY = {
 };
 const WORDS = { asked: 'the rest is looked for …', best: 'the best with it there', near: 'the nearest with it there', beside: 'the nearest with it there, as nothing else is held' };
 
-// What was found last beside the hand; '' where it does nothing.
+// The last result beside the hand; '' if it does nothing.
 export const restText = () => WHY[last.kind] ? `✕ ${WHY[last.kind]}` : WORDS[last.kind] || (last.kind ? `${last.kind === 'stopped' ? 'perhaps ' : ''}${WORDS[last.mode]}` : '');
 
 const timesIn = edits => new Map(edits.filter(({ kind }) => kind === 'time').map(({ numbers }) => numbers));
@@ -34,13 +35,13 @@ const restAt = now => {
   hear();
 };
 
-// Whether just the hand's own holds what is joined to it: the best would then be all of that, turned with the hand.
+// Whether only the hand holds what is connected to it: the best would then be all of that, shifted with the hand.
 const isTurned = (own, held) => {
   const { events, activities, windows } = display.view.network, component = [...componentsOf(events, activities.values())].find(each => each.some(event => own.has(event)));
   return Boolean(component) && !component.some(event => windows.has(event) || (held.has(event) && !own.has(event)));
 };
 
-// What the hand changes, with the events where it has them, and those that it has moved before or that are to stay.
+// The hand's changes, with the times of its events, and the events that it has moved before or that are to stay.
 const questionOf = edits => {
   const times = timesNow(), stay = [...eventsMoved(), ...stayingEvents()].filter(event => times.has(event)), others = edits.filter(({ kind }) => kind !== 'time');
   const held = new Map(stay.map(event => [event, times.get(event)]));
@@ -49,14 +50,14 @@ const questionOf = edits => {
   return { held, followed, asked: { kind: 'hand', mark: markNow(), ...present(), mode: followed === 'best' ? 'best' : 'near', edits: others.map(({ line }) => line), held: [...held], times: [...new Map([...times, ...held])], events: display.view.network.events } };
 };
 
-// The edits that set all other events, turned as a whole to where they are where nothing holds them.
+// The edits that set all other events, shifted as a whole to the times shown if nothing holds them.
 const editsTo = (found, { held, asked }) => {
   const times = timesNow(), { network } = display.view, windows = new Map([...network.windows, ...held]);
   const others = asked.mode === 'best' ? turned(found, { network: { ...network, windows }, times }) : found;
   return timeEdits([...others].filter(([event, time]) => !held.has(event) && times.get(event) !== time));
 };
 
-// Asks for the rest; `tell` hears what is found, and the last of it with `isDone`.
+// Requests the rest; `tell` receives the results, the last one with `isDone`.
 const ask = (question, tell) => {
   restAt({ ...NONE, kind: 'asked' });
   follower.ask(question.asked, ({ near, isDone }) => {
@@ -71,7 +72,7 @@ const draw = () => {
   preview([...edits, ...others], title, others.length ? before : null);
 };
 
-// Asks for the rest where the hand is. What is found for where it was a moment ago is shown too, and then the next place is asked for.
+// Requests the rest for the hand's place. A result for an earlier place is shown too, and then the next place is requested.
 const askForHand = () => {
   const { edits, question } = hand;
   if (!edits.length) return restAt(NONE);
@@ -84,7 +85,7 @@ const askForHand = () => {
   });
 };
 
-// Shows what edits of a drag make, with the rest beside it: until that is known, where it was beside the hand last.
+// Shows the effect of a drag's edits, with the rest beside it: until that is known, the last rest.
 export const showHand = (edits, title) => {
   if (!mode()) return preview(edits, title);
   const isAsked = hand && follower.of(), { before, rest } = hand || { before: display.view.before || display.view, rest: NONE };
@@ -93,7 +94,7 @@ export const showHand = (edits, title) => {
   return isAsked ? null : askForHand();
 };
 
-// The hand has let go, and nothing is done.
+// The hand has released, and nothing is done.
 export const leaveHand = () => {
   follower.leave();
   [hand, last] = [null, NONE];
@@ -103,7 +104,7 @@ const FOLLOWS = ', and the rest follows';
 
 const sayWhy = ({ kind }) => WHY[kind] && sayMore(`the rest stays: ${WHY[kind]}`);
 
-// The step of a hand is done: the rest follows as soon as it is known, as a part of that step, where no other one came.
+// The step of a hand is done: the rest follows as soon as it is known, as a part of that step, unless another one came.
 const followLater = question => {
   const step = stepNow();
   ask(question, (found, isDone) => {

@@ -1,4 +1,4 @@
-// The row of an event: its name, its time, the strip of its domain with what holds it, and a word on that.
+// The row of an event: its name, its time, the strip of its domain with its window, and a remark on that.
 
 import { conflictsOfRow, detailsOf, isOutside, shortConflicts } from '../session/conflicts.js';
 import { display } from '../session/display.js';
@@ -6,7 +6,7 @@ import { drawing, element, setText } from '../base/elements.js';
 import { makeHandle, tellHandle } from './handles.js';
 import { clock, domainText, eventName, eventShort, runsOf, twinText, windowText } from '../session/names.js';
 
-// An event's row, with what was drawn last, so that only what changed is drawn again.
+// An event's row, with what was drawn last, so that only changes are drawn.
 export const makeRow = event => {
   const { place, kind } = eventShort(event);
   const row = { event, drawn: {} };
@@ -27,7 +27,7 @@ export const makeRow = event => {
 // A path over runs of minutes in a strip that is one unit high.
 const pathOf = minutes => runsOf(minutes).map(([first, last]) => `M${first} 0H${last + 1}V1H${first}Z`).join('');
 
-// The frame of a window; one that goes over the end of the period has two parts.
+// The frame of a window; one that wraps around the end of the period has two parts.
 const frameOf = ({ first, length }, period) => {
   const end = first + length;
   if (end <= period) return `M${first} 0H${end}V1H${first}Z`;
@@ -58,7 +58,7 @@ const grip = (row, name, label) => {
   return row[name];
 };
 
-// What holds the event, and the handles at the ends of a window.
+// The window of the event, and the handles at its ends.
 const drawHeld = (row, window, period) => {
   row.held.setAttribute('d', window ? frameOf(window, period) : '');
   for (const name of ['first', 'last']) if (row[name]) row[name].hidden = !window;
@@ -71,7 +71,7 @@ const drawHeld = (row, window, period) => {
   }
 };
 
-// The ends of a frame stand where they are, but beside a diamond that lies there, on the side that is outside.
+// The ends of a frame are at their places, except beside a diamond there, on the outer side.
 const BESIDE = '0.8rem', NEAR = 0.05;
 
 /** @type {[string, number][]} */
@@ -103,7 +103,7 @@ const noteOf = (window, isViolated, period) => {
 
 const toldOf = conflicts => conflicts ? `${conflicts[0].number} ${conflicts[0].short} ${conflicts.length}` : '';
 
-// The violated activities at the event; one that is too long for its place is whole in its title.
+// The violated activities at the event; one that is too long for its place is complete in its title.
 const drawBroken = (row, isBroken, conflicts) => {
   row.node.classList.toggle('broken', isBroken);
   row.notes.replaceChildren(row.note);
@@ -119,7 +119,7 @@ const isSeen = (seen, before) => {
   return true;
 };
 
-// Draws what is new about an event, of which `conflicts` are what is violated there, if anything.
+// Draws the changes of an event, whose violations are `conflicts`.
 export const drawRow = (row, view, conflicts) => {
   const { event } = row, period = view.network.period, minutes = view.domains.get(event), window = view.network.windows.get(event);
   const isViolated = isOutside(view, event), isChosen = display.chosen === event, broken = toldOf(conflicts), twin = twinText(event);

@@ -13,7 +13,7 @@ import { doByHand } from './rest.js';
 import { doStep } from '../session/session.js';
 import { minutesHad } from '../base/viewing.js';
 
-// So many activities have a card; of more a word says so.
+// This many activities have a card; a remark counts the others.
 const MOST_CARDS = 200;
 let listed = [], cards = new Map();
 
@@ -21,7 +21,7 @@ const build = () => {
   listed = [];
 };
 
-// The activities at an event, which are looked for where it or one of them is another.
+// The activities at an event, which are searched for only if it or one of them has changed.
 let found = { activities: null, event: null, all: [] };
 const activitiesAt = ({ activities }, event) => {
   if (found.activities === activities && found.event === event) return found.all;
@@ -47,7 +47,7 @@ const beyond = ({ length }) => {
 
 export const spansPanel = { build, update };
 
-// Brings the card of an activity to where it is seen, and the keys to it; one of its events is chosen first.
+// Scrolls to the card of an activity, and focuses it; one of its events is chosen first.
 export const showActivity = (number, event = null) => {
   const { first, last } = display.view.network.activities.get(number);
   bringRow(event !== null ? event : display.chosen === last ? last : first);
@@ -86,7 +86,7 @@ const makeCard = ({ number, first, last }) => {
   return card;
 };
 
-// What a track shows: the span and the tension, with some minutes before and after them.
+// The range of a track: the span and the tension, with some minutes before and after them.
 const rangeOf = ({ lower, upper }, taken, period) => {
   const least = lower - Math.ceil(period / 12), most = Math.max(upper, taken ? taken.tension : upper);
   return { least, count: most + Math.ceil(period / 4) - least };
@@ -121,7 +121,7 @@ const drawCard = (card, activity, view) => {
   }
 };
 
-// What is violated may be counted as a period more than it takes.
+// A violated activity may be counted as a period longer than it is.
 const toldOf = (taken, had, isViolated, weight) => {
   if (!taken) return 'one of its ends has no time';
   const cost = weight && taken.slack ? `, ${costsText(weight * taken.slack)}` : '';
@@ -136,7 +136,7 @@ const place = (node, card, first, end) => {
   node.style.width = `${percent(card, end) - percent(card, first)}%`;
 };
 
-// The span that a handle makes when it is moved by some minutes; an end stops at the other one.
+// The span that results when a handle is moved by some minutes; an end stops at the other one.
 const spanLine = (number, { lower, upper }, end, move) => {
   if (end === 'lower') return edit.span(number, Math.min(upper, lower + move), upper);
   if (end === 'upper') return edit.span(number, lower, Math.max(lower, upper + move));

@@ -1,4 +1,4 @@
-// Hands of the events: what is dragged, clicked and typed on their strips.
+// Input on the strips of events: drags, clicks and keys.
 
 import { addHere } from './adding.js';
 import { isOutside } from '../session/conflicts.js';
@@ -33,7 +33,7 @@ const lineOf = (row, target, start) => {
   return minute => edit.fix(event, Math.min(period - 1, Math.max(0, minute)));
 };
 
-// An end of a frame lies between two minutes, and is taken hold of beside them: by how much a pointer is off the later one.
+// An end of a frame is between two minutes, and is dragged beside them: by how much a pointer is off the later one.
 const edgeShift = ({ strip }, { dataset }, x, period) => {
   const { left, width } = strip.getBoundingClientRect();
   return left + width * (Number(dataset.at) + 0.5) / period - x;
@@ -60,7 +60,7 @@ const begin = event => {
   });
 };
 
-// What holds an event, moved by a key on its strip.
+// Moves the window of an event by a key on its strip.
 const movedLine = (event, move, isLength) => {
   const { period, windows } = display.view.network, window = windows.get(event);
   if (!window) {
@@ -95,12 +95,12 @@ const typed = event => {
   event.preventDefault();
 };
 
-// Lets go of what holds an event, or takes its time away.
+// Removes the window of an event, or its time.
 export const letGo = (event, isTime) => {
   if (isTime ? display.view.times.has(event) : display.view.network.windows.has(event)) doStep([isTime ? edit.untime(event) : edit.unfix(event)]);
 };
 
-// A diamond that lies in a frame hides what a hand means there.
+// A diamond within a frame hides the meaning of a click there.
 const isHeldThere = event => display.view.network.windows.has(event) && !isOutside(display.view, event);
 
 export const startStrips = () => {

@@ -1,5 +1,5 @@
-// Trains an hour: equal trains of a line, of which each event is tied to that of the first one at so many minutes, so that the search
-// has one train. They have no changes of their own, since passengers take one of the trains.
+// Trains an hour: equal trains of a line, each of whose events is tied to that of the first one at a fixed distance, so that the
+// search has one train. They have no changes of their own, since passengers use one of the trains.
 
 import { display } from '../session/display.js';
 import { addActivity, copyEvents, dropEvents } from './making.js';
@@ -8,21 +8,21 @@ import { trainAt } from '../session/trains.js';
 
 const TIE = 'twin', HOUR = 60;
 
-// How many trains a period has at so many an hour, and how many minutes lie between two; one where nothing is typed. Raises Error.
+// How many trains a period has at this many an hour, and how many minutes are between two; one if nothing is typed. Raises Error.
 export const rhythmOf = text => {
   const { period } = display.view.network, minutes = text ? HOUR / Number(text) : period, count = period / minutes;
   if (!Number.isInteger(minutes) || !Number.isInteger(count) || count < 1) throw new Error(`${text} trains an hour cannot come each some whole minutes in a period of ${period}.`);
   return { count, minutes };
 };
 
-// The number of trains an hour where a period has so many; '' where that is no whole number.
+// The number of trains an hour if a period has this many; '' if that is not a whole number.
 export const hourlyText = count => Number.isInteger(count * HOUR / display.view.network.period) ? String(count * HOUR / display.view.network.period) : '';
 
-// Ties the events of a train to those of its twin, which is so many minutes later.
+// Ties the events of a train to those of its twin, which is this many minutes later.
 export const tie = (made, events, others, minutes) =>
   events.forEach((event, place) => addActivity(made, [event, others[place]], [minutes, minutes], 0, TIE));
 
-// The trains that are tied to one, itself among them, each with the minutes by which it is later.
+// The trains that are tied to one, including itself, each with the minutes by which it is later.
 export const tiedTrains = train => {
   const ties = [...display.view.network.activities.values()].filter(({ number }) => display.labels.kinds.get(number) === TIE);
   const own = ties.find(({ last }) => last === train.events[0]) || { first: train.events[0], lower: 0 };
@@ -31,12 +31,12 @@ export const tiedTrains = train => {
     .map(({ first, lower }) => ({ train: trainAt(first).train, minutes: lower - own.lower }));
 };
 
-// Whether others are tied to a train, or none is.
+// Whether others are tied to a train.
 export const isFirst = train => tiedTrains(train).every(({ minutes }) => minutes >= 0);
 
 const familyOf = ({ to, stations }) => JSON.stringify([to, stations]);
 
-// Of each direction of a line the train to which the others are tied. Raises Error where some are not.
+// For each direction of a line the train to which the others are tied. Raises Error if some are not.
 const leadsOf = ({ trains }) => {
   const leads = trains.filter(isFirst), known = new Map();
   for (const train of leads) {
@@ -46,7 +46,7 @@ const leadsOf = ({ trains }) => {
   return leads;
 };
 
-// Gives the trains of a line so many twins that they come each so many minutes; those that come then already stay.
+// Adds twins to the trains of a line until they run at this interval; existing ones stay.
 export const setRhythm = (made, line, { count, minutes }) => {
   for (const lead of leadsOf(line)) {
     const others = tiedTrains(lead).slice(1), wanted = [...Array(count).keys()].slice(1).map(place => place * minutes);

@@ -1,4 +1,4 @@
-// Where there is little room the chosen event is one line below the others, which unfolds: by its button, and where it is chosen.
+// With little room the chosen event is one line below the others, which unfolds: by its button, and when it is chosen.
 
 import { find } from '../base/elements.js';
 

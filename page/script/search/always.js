@@ -1,5 +1,5 @@
-// Always the best: with a tick each step is followed by a search in a Worker of its own, and how far the timetable that is shown is above
-// the best is told, beside the rest that follows a hand.
+// Always the best: with a tick each step is followed by a search in a Worker of its own, and the page shows how far its timetable
+// is above the best, beside the rest that follows a hand.
 
 import { display } from '../session/display.js';
 import { find, findAll, say, setText } from '../base/elements.js';
@@ -11,7 +11,7 @@ import { EVERY_ATTEMPT, foundNow, learnFound } from './searching.js';
 import { markNow, networkNow, present } from '../session/session.js';
 import { soleWorker } from '../base/workers.js';
 
-// No step is searched for longer, in seconds; `ended` is the mark of the network that was searched last.
+// The greatest seconds of a step's search; `ended` is the mark of the network that was searched last.
 const MOST_SECONDS = 60, searcher = soleWorker();
 let ended = null;
 

@@ -1,5 +1,6 @@
-// What the page has a Worker do, one thing at a time, so that it stays usable: searches, why there is none, what would help, and
-// long files of lines. A search is stopped between two steps of the Worker, which keeps it to be gone on with; all else by ending it.
+// The page's tasks for a Worker, one at a time, so that it stays usable: searches, why there is none, what would help, and long
+// files of lines. A search is stopped between two steps of the Worker, which keeps it to be resumed; everything else by ending
+// the Worker.
 
 import { find, lead, say } from '../base/elements.js';
 import { RunFault } from '../base/running.js';
@@ -15,20 +16,20 @@ const WORDS = {
   play: { busy: 'Doing the commands …', stopped: 'the opening was stopped, and nothing has changed', left: 'the opening has ended with it' },
 };
 const TICK = 1000;
-// What is asked of files, and not of the network that is shown; what they are to make takes its place.
+// Tasks about files, and not about the network shown; their result replaces it.
 const OF_FILES = ['convert', 'play'];
 
-// `asked` is what the Worker does now, since the step `from`, who hears of it, and what had the keys when it began; null where it
-// does nothing.
+// `asked` is the Worker's present task, the step `from` which it runs, its listener, and what had the focus when it started; null
+// if there is none.
 let worker = null, asked = null, clock = null;
 
-// Called where what the Worker does is another thing, and each second.
+// Called when the Worker's task changes, and each second.
 let hear = () => {};
 
 export const hearAsked = listener => { hear = listener; };
 
-// Asks something of the state that is shown. `tell` hears each answer, `fail` a fault, and `end` after how many seconds nothing
-// more comes.
+// Starts a task about the state shown. `tell` receives each answer, `fail` a fault, and `end` the seconds when nothing more
+// comes.
 export const askFor = (question, { tell, fail = fault => say(fault, true), end = () => {} }) => {
   stopAsking();
   worker = worker || startWorker(answered);
@@ -45,7 +46,7 @@ const endWorker = () => {
   worker = null;
 };
 
-// Ends what the Worker does, at once: of a step that it is in nothing is heard any more.
+// Ends the Worker's task at once: no more is heard of its present step.
 export const stopAsking = () => {
   if (!asked) return;
   if (asked.kind === 'search') worker.postMessage({ kind: 'rest' });
@@ -73,13 +74,13 @@ const answered = answer => {
   else hear();
 };
 
-// What the Worker is asked, and for how many seconds; null where it does nothing.
+// The Worker's task, and its seconds; null if there is none.
 export const askedNow = () => asked && { kind: asked.kind, busy: WORDS[asked.kind].busy, seconds: seconds() };
 
-// What is opened takes the place of whatever is shown, so that any step ends it.
+// Opened files replace whatever is shown, so any step ends such a task.
 const isIdle = () => OF_FILES.includes(asked.kind) ? asked.from !== stepNow() : asked.mark !== markNow();
 
-// Ends what is asked of a network that is not there any more, and says so; '' where nothing is.
+// Ends a task about a network that is no longer shown, and reports it; '' if there is none.
 export const leaveAsked = () => {
   if (!asked || !isIdle()) return '';
   const { left } = WORDS[asked.kind];
@@ -87,22 +88,22 @@ export const leaveAsked = () => {
   return left;
 };
 
-// What the Worker makes of files, as one member of its answer; null where it was stopped. Rejected with RunFault.
+// The Worker's result from files, as one member of its answer; null if it was stopped. Rejected with RunFault.
 const made = (question, member) => new Promise((done, fail) => {
   askFor(question, { tell: answer => done(answer[member]), fail: (fault, refused) => fail(new RunFault(fault, false, refused)), end: () => done(null) });
 });
 
-// What a base makes, as another one without lines.
+// The state of a base, as another base without lines.
 export const play = played => made({ kind: 'play', played }, 'base');
 
-// Long files of some kinds, each converted, with the words on that. The Worker ends with it, which gives its memory back.
+// Long files of some kinds, each converted, with the remarks on that. The Worker ends with it, which frees its memory.
 export const convertLong = async files => {
   const converted = await made({ kind: 'convert', files }, 'converted');
   if (worker && !asked) endWorker();
   return converted;
 };
 
-// What has ended meanwhile has nothing to stop.
+// A task that has ended meanwhile cannot be stopped.
 export const startAsking = () => find('stop').addEventListener('click', () => {
   if (!asked) return;
   const { stopped } = WORDS[asked.kind];

@@ -1,5 +1,5 @@
-// A bound below which no timetable costs, by groups of events: what each of them costs at least, together, since nothing costs less
-// than 0 between them. It is told where the program has none of the whole.
+// A lower bound of the cost by groups of events: the sum of what each of them costs at least, since nothing costs less than 0
+// between them. It is used if the program has none for the whole.
 
 import { baseOf, componentsOf } from '../base/network.js';
 import { FIRST_NODES, paced } from './pacing.js';
@@ -8,7 +8,7 @@ import { openSession } from '../base/running.js';
 
 const MOST_EVENTS = 200;
 
-// Groups of events with few activities between them: those that cost most join events first.
+// Groups of events with few activities between them: the most expensive ones join events first.
 const groupsOf = ({ events, activities }) => {
   const joins = [...activities.values()].sort((one, other) => other.weight - one.weight);
   return [...componentsOf(events, joins, MOST_EVENTS)];
@@ -23,8 +23,8 @@ export const partOf = ({ period, windows, activities }, group) => {
   };
 };
 
-// What bounds a search. `goOn` goes on with one group after another, and gives what was found with the bound, or that there is no timetable;
-// null where all groups are done. `close` ends it.
+// Bounds a search. `goOn` continues with one group after another, and returns the result with the bound, or that there is no
+// timetable; null if all groups are done. `close` ends it.
 export const boundingOf = network => {
   const groups = groupsOf(network), open = groups.filter(group => group.length > 1 && groups.length > 1).map(group => ({ group, session: null, nodes: FIRST_NODES, least: 0n }));
   let least = 0n;

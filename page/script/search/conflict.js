@@ -1,6 +1,6 @@
-// Why no timetable meets everything: a least set of members that cannot be met together, with what mends it. First what is
-// no part of the conflict is let go by halves, as long as single activities alone show an empty domain; then by searches. The
-// Python package has the same over its session; here is the page's own, since a page can ask nothing but its module.
+// Why no timetable meets everything: a minimal set of members that cannot be met together, with its repairs. First members
+// outside the conflict are dropped by bisection, as long as an empty domain shows that the rest is infeasible; then by
+// searches. The Python package does the same over its session; this is the page's own, since a page can only use its module.
 
 import { findMends } from './mending.js';
 import { byDomains, byMember, bySearch, memberKey, prefer, probeOf } from './probing.js';
@@ -8,9 +8,9 @@ import { shapeOf } from './shapes.js';
 
 const FIRST_NODES = 500, MORE = 4;
 
-// The answer of a network: `possible`, `undecided` or `conflict`. Of the members in `kept`, by their keys, the conflict has
-// no more than has to be, and no mend changes one; no mend lowers the least minutes of an activity but where it `canLower` them. It is
-// looked for at the events first at which a timetable violates something.
+// The answer for a network: `possible`, `undecided` or `conflict`. The conflict has as few as possible of the members in `kept`,
+// by their keys, and no repair changes one; no repair lowers the least minutes of an activity unless it `canLower` them. It is
+// searched for first at the events at which a timetable violates something.
 export const findWhy = (network, { nodes = 2000, seconds = 10, kept = new Set(), canLower = false, violated = [] } = {}) => {
   const probe = { ...probeOf(network), kept, canLower }, until = performance.now() + 1000 * seconds;
   if (isSeenByDomains(probe, violated, until)) return conflictOf(probe, leastOf(probe, members => byDomains(probe, members)), nodes, seconds);
@@ -36,14 +36,14 @@ const isSeenByDomains = (probe, violated, until) => {
   return false;
 };
 
-// The least set by a test: as few that may be changed as can be, and then as few of the others.
+// The minimal set by a test: with as few members as possible that may change, and then as few of the others.
 const leastOf = ({ members, kept }, test) => {
   const hard = members.filter(member => kept.has(memberKey(member))), soft = members.filter(member => !hard.includes(member));
   const needed = least(soft, hard, test);
   return [...needed, ...least(hard, needed, test)];
 };
 
-// Members that are infeasible together with the background, which has to hold for all of them.
+// Members that are infeasible together with the background, all of whose members are required.
 const least = (members, background, test) => !members.length || test(background) ? [] : halves(background, false, members, test);
 
 const halves = (background, isGrown, members, test) => {
@@ -54,10 +54,10 @@ const halves = (background, isGrown, members, test) => {
   return [...halves([...background, ...needed], needed.length > 0, first, test), ...needed];
 };
 
-// The members without those that can be left out one by one: no set with one member less is seen to be infeasible.
+// The members without those that can be omitted one by one: no set with one member less is found to be infeasible.
 const settled = (members, test) => {
   let kept = members;
-  // What could not be left out beside a member that went afterwards perhaps can be now, so the last round changes nothing.
+  // A member that was needed beside another one, dropped later, may be unnecessary now, so the last round changes nothing.
   for (let before = null; before === null || kept.length < before.length;) {
     before = kept;
     for (const member of before) {
@@ -68,7 +68,7 @@ const settled = (members, test) => {
   return kept;
 };
 
-// What is told of a set; by searches, which see more than domains, some of its members may turn out not to be needed.
+// The answer for a set; searches see more than domains, so some of its members may turn out to be unnecessary.
 const conflictOf = (probe, found, nodes, seconds) => {
   const isInfeasible = members => bySearch(probe, members, nodes) === 'infeasible';
   const members = settled(found, isInfeasible).sort(byMember);

@@ -1,5 +1,5 @@
-// What each minute costs of the chosen event, of all of its train, and of activities at it: asked for by a tick or a button, drawn as it
-// is worked out, and taken over by a click.
+// The price of each minute of the chosen event, of all of its train, and of activities at it: requested by a tick or a button,
+// drawn as it is computed, and applied by a click.
 
 import { costName } from '../session/costs.js';
 import { drawCurve, hasCost, makeCurve, priceText, shadesOf, summaryOf } from './curves.js';
@@ -13,11 +13,11 @@ import { doStep } from '../session/session.js';
 import { rangeShown } from '../forms/spans.js';
 import { trainAt } from '../session/trains.js';
 
-// While prices come, pictures are drawn so many milliseconds apart: drawing takes longer than a price.
+// While prices arrive, pictures are drawn this many milliseconds apart: drawing takes longer than a price.
 const APART = 100;
 
-// An event of the train and the activities that were asked for; the minute that is looked at in a picture; the frame and the timer that
-// wait; and when the pictures were drawn.
+// An event of the train and the activities that were requested; the minute under the pointer in a picture; the pending frame and
+// timer; and when the pictures were drawn.
 let ofTrain = null, activities = new Set(), looked = { key: '', minute: null }, frame = 0, timer = 0, drawnAt = -APART;
 
 const eventQuestion = event => ({ of: 'event', number: event, window: display.view.network.windows.get(event) || null });
@@ -26,14 +26,14 @@ const activityQuestion = number => ({ of: 'activity', ...display.view.network.ac
 
 const isOn = () => find('ask-prices').checked;
 
-// The chosen event, and where it was asked for all others of its train.
+// The chosen event, and if requested all others of its train.
 const eventsAsked = () => {
   const { chosen } = display, of = trainAt(chosen);
   if (!isOn()) return [];
   return of && of.train.events.includes(ofTrain) ? [chosen, ...of.train.events.filter(event => event !== chosen)] : [chosen];
 };
 
-// Those of activities first, since they were asked for by themselves.
+// Activities come first, since they were requested separately.
 const questions = ({ network, domains }) => [
   ...[...activities].filter(number => network.activities.has(number)).map(activityQuestion),
   ...eventsAsked().filter(event => domains.has(event)).map(eventQuestion),
@@ -49,7 +49,7 @@ const conditionOf = ({ of }, minute) => of === 'event' ? `at ${clock(minute)}` :
 
 const nowOf = ({ of, number }, { times, tensions }) => of === 'event' ? times.get(number) : tensions.get(number)?.tension;
 
-// Another timetable as far as it is another.
+// The differences of another timetable.
 const changedTimes = ({ times }) => {
   const { network: { events }, times: now } = display.view;
   return events.flatMap((event, place) => now.get(event) === times[place] ? [] : [edit.time(event, times[place])]);
@@ -60,7 +60,7 @@ const holdEdits = ({ of, number, window }, minute) => of !== 'event' || (window 
 const titleOf = ({ of, number }, minute) => of === 'event' ? `${eventName(number)}: held at ${clock(minute)}`
   : `${activityName(display.view.network.activities.get(number))}: ${minutesText(minute)}`;
 
-// Holds an event at a minute, where one was looked for, and takes the best timetable over that has it there.
+// Fixes an event at a minute, if a price is known there, and takes over the best timetable with it.
 const take = (question, minute) => {
   const price = pricesOf(question).get(minute);
   if (!hasCost(price)) return say(priceText(pricesOf(question), minute, conditionOf(question, minute)), true);
@@ -92,7 +92,7 @@ const typed = (question, event) => {
 
 const lookedIn = ({ of, number }) => looked.key === `${of} ${number}` ? looked.minute : null;
 
-// A picture with its words, of the question that it has at the time.
+// A picture with its words, of the present question.
 const pictureOf = (name, questionNow) => {
   const picture = makeCurve(name, {
     onpointermove: event => lookAt(questionNow(), minuteAt(questionNow(), picture, event.clientX)),
@@ -114,7 +114,7 @@ const draw = (holder, question, view) => {
   tellHandle(picture, minute === null ? all[0] : minute, Math.min(...all), Math.max(...all), words || summary.textContent);
 };
 
-// The activities' pictures stand in their cards, which may be made anew.
+// The activities' pictures are in their cards, which may be built again.
 const drawCards = view => {
   for (const button of findAll('[data-price]')) {
     const number = Number(button.dataset.price), holder = button.closest('.card').querySelector('.priced');
@@ -180,7 +180,7 @@ const askTrain = () => {
 const build = () => {
   if (!find('ask-prices')) makeHands();
   setText(find('ask-prices').nextElementSibling, ` ${costName()} at each minute `);
-  // What stands on a picture has that name too.
+  // The text on a picture is its name too.
   for (const picture of findAll('.priced')) picture.remove();
 };
 

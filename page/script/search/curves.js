@@ -9,7 +9,7 @@ const FLOOR = 12;
 
 export const hasCost = price => Boolean(price) && price.cost !== undefined;
 
-/** The least and the greatest cost that is known; null where none is.
+/** The least and the greatest known cost; null if there is none.
  * @returns {[bigint, bigint]} */
 const rangeOf = prices => {
   const costs = [...prices.values()].filter(hasCost).map(({ cost }) => BigInt(cost));
@@ -19,7 +19,7 @@ const rangeOf = prices => {
 
 const leastCost = prices => (rangeOf(prices) || [null])[0];
 
-// By how much of what lies between them a price is above the least, from 0 to 1.
+// The share of a price between the least and the greatest, from 0 to 1.
 const shareOf = ({ cost }, [least, most]) => most === least ? 0 : Number(BigInt(cost) - least) / Number(most - least);
 
 const colorOf = (price, range) => {
@@ -29,7 +29,7 @@ const colorOf = (price, range) => {
 
 const percent = (minute, { least, count }) => 100 * (minute - least) / count;
 
-// The shades as an image of a style: a stripe for each minute that is known.
+// The shades as a background image: a stripe for each known minute.
 export const shadesOf = (prices, track) => {
   const range = rangeOf(prices), stripes = [];
   for (let minute = track.least; minute < track.least + track.count; minute += 1) {
@@ -39,7 +39,7 @@ export const shadesOf = (prices, track) => {
   return `linear-gradient(to right, ${stripes.join(', ')})`;
 };
 
-// The curve as the edge of an area, which goes down to the ground where nothing is known or nothing is possible.
+// The curve as the edge of an area, which goes down to the ground if nothing is known or nothing is possible.
 const edgeOf = (prices, track) => {
   const range = rangeOf(prices), points = ['0% 100%'];
   for (let minute = track.least; minute < track.least + track.count; minute += 1) {
@@ -50,7 +50,7 @@ const edgeOf = (prices, track) => {
   return `polygon(${[...points, '100% 100%'].join(', ')})`;
 };
 
-// A picture that is empty. What is done by a pointer and by keys there is its owner's.
+// An empty picture. Its owner handles pointer and keys.
 export const makeCurve = (name, more) => {
   const made = makeHandle('curve', name, { tabindex: 0, ...more });
   made.append(...['shades', 'area', 'best', 'at'].map(each => element('span', { class: each })));
@@ -72,7 +72,7 @@ export const drawCurve = (picture, prices, track, at) => {
   }
 };
 
-// What a minute costs beside the best one, in words.
+// What a minute costs compared with the best one, in words.
 export const priceText = (prices, minute, condition) => {
   const price = prices.get(minute), least = leastCost(prices);
   if (!price) return `${condition}: not known yet`;
@@ -82,7 +82,7 @@ export const priceText = (prices, minute, condition) => {
   return `${condition} ${best} ${more ? `${costsText(more)} more` : `is as good as any: ${costText(price.cost)}`}`;
 };
 
-// Which minutes are best, and which have none, as far as it is known.
+// Which minutes are best, and which have none, as far as known.
 export const summaryOf = (prices, all, { period, isLength, isTurned }) => {
   const best = bestMinutes(prices), none = [...prices.values()].filter(({ kind }) => kind === 'infeasible').map(({ minute }) => minute).sort((one, other) => one - other);
   const left = all.length - prices.size, name = minutes => isLength ? minutes.map(each => minutesText(each)).join(', ') : domainText(minutes, period);

@@ -1,22 +1,24 @@
-// What searches of one network have come to: the best timetable, and a bound that no timetable is cheaper than; in a planner's words,
-// and beside the timetable that is shown.
+// The results of searches of one network: the best timetable, and a lower bound of all costs; in a planner's words, and compared
+// with the timetable shown.
 
 import { costsText, costText, sentence } from '../session/costs.js';
 import { isSure } from '../base/replies.js';
 import { turned } from '../base/turning.js';
 import { isMet } from '../base/viewing.js';
 
-// By how much a cost may be above the best, in thousandths of that and upwards, and the most for which per cents say something.
+// By how much a cost may be above the best, in thousandths of that, rounded up, and the greatest value for which percentages are
+// useful.
 const THOUSAND = 1000n, MOST = 10n * THOUSAND;
 
 const number = value => value.toLocaleString('en');
 
-// Where no timetable can be cheaper than the best one, that is an optimum.
+// If no timetable can be cheaper than the best one, that is an optimum.
 const settled = found => found.times && found.bound >= found.cost ? { ...found, kind: 'optimum' } : found;
 
 const higher = (one, other) => one === undefined || other > one ? other : one;
 
-// The better of what was found and what a search tells now, the bound too; how far that search has come is told with either.
+// The better of an earlier result and that of a search now, with the better bound; the progress of that search is kept with
+// either.
 export const betterFound = (before, now) => {
   if (isSure(now)) return now;
   const { seconds } = now, nodes = Math.max(before.nodes, now.nodes);
@@ -25,7 +27,7 @@ export const betterFound = (before, now) => {
   return settled({ ...(isKept ? before : now), bound: higher(before.bound, now.bound), nodes, seconds });
 };
 
-// How far a cost is from the best, as far as a bound tells; '' where it tells too little.
+// How far a cost is from the best, by a bound; '' if that says too little.
 const gapText = (cost, bound) => {
   if (!bound) return '';
   const least = BigInt(bound), gap = ((BigInt(cost) - least) * THOUSAND + least - 1n) / least;
@@ -55,7 +57,7 @@ export const tookText = ({ kind, nodes, seconds, isStopped }) => {
   return isSure({ kind }) ? `in ${took}` : `after ${number(nodes)} attempts, ${took}`;
 };
 
-// How far a timetable that is shown is above the best, as far as that is known; where it does not meet everything, what the best costs.
+// How far the timetable shown is above the best, if known; if it does not meet everything, the cost of the best.
 export const aboveText = (found, view) => {
   const { kind, cost, times, bound } = found, best = `the best${kind === 'optimum' ? '' : ' that is found'}`;
   if (!times) return TEXTS[kind](found);
@@ -67,8 +69,8 @@ export const aboveText = (found, view) => {
 const isShown = ({ cost, times }, view) => cost === view.cost && times.size === view.times.size
   && [...turned(times, view)].every(([event, time]) => view.times.get(event) === time);
 
-// What is found beside the timetable that is shown, where that meets everything, and what its button says; while a search runs, one
-// that is no better has none.
+// The result compared with the timetable shown, if that meets everything, and the text of its button; while a search runs, a
+// timetable that is no better has none.
 export const comparedText = (found, view, isSearching) => {
   const { cost, bound } = found;
   if (isShown(found, view)) return { text: 'it is the timetable shown', adopt: '' };

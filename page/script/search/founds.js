@@ -1,4 +1,4 @@
-// The timetables that were found, of networks by their marks: the cheapest ones of each, and of the last networks alone.
+// The timetables found, of networks by their marks: the cheapest ones of each, and only of the last networks.
 
 import { display } from '../session/display.js';
 import { markNow } from '../session/session.js';
@@ -18,7 +18,7 @@ export const noteFound = (mark, { kind, times, cost }) => {
   for (const old of [...known.keys()].slice(0, -MOST_NETWORKS)) known.delete(old);
 };
 
-// The cheapest timetable that is known to meet everything: one that was found, or the one that is shown; null where none is.
+// The cheapest known timetable that meets everything: one that was found, or the one shown; null if there is none.
 export const bestKnown = () => {
   const { times, cost, isTried } = display.view, all = foundsOf(markNow()), [best] = all;
   if (!isTried && isMet(display.view) && !(best && best.cost <= cost)) return { kind: 'stopped', times, cost, isShown: true };

@@ -1,5 +1,6 @@
-// What would help: the best timetable with one minute more, or one less of the least, at each activity of the kinds that the planner
-// allows, beside the best one as it is. Each is a search; they are listed as they come, and one is taken over by a click.
+// What would help: the best timetable with one minute more, or with a least minute one lower, at each activity of the kinds that
+// the planner permits, compared with the best timetable of the unchanged network. Each is a search; results are listed as they
+// arrive, and a click applies one.
 
 import { askFor } from './asking.js';
 import { costsText, costText } from '../session/costs.js';
@@ -16,10 +17,10 @@ import { isTab } from '../session/tabs.js';
 const USUALLY_KEPT = ['run', 'dwell', 'headway'], MOST_ASKED = 2000, MOST_SHOWN = 200;
 const MODES = {
   more: { title: 'one minute more', change: ({ lower, upper }) => ({ lower, upper: upper + 1 }), paid: () => 0n },
-  // The least ones are what slack counts from: a minute less of them would cost more in the same timetable.
+  // Slack counts from the least minutes: with one minute less the same timetable would cost more.
   less: { title: 'one less of the least minutes', change: ({ lower, upper }) => ({ lower: lower - 1, upper }), paid: ({ weight }) => BigInt(weight) },
 };
-// What was asked, of which state, and what came.
+// The questions, the state that they are about, and the results.
 let asked = null, drawn = null;
 
 const kindsOf = ({ network }) => {
@@ -30,7 +31,7 @@ const kindsOf = ({ network }) => {
 
 const boxes = () => [...find('allowed-kinds').querySelectorAll('input')];
 
-// The boxes of kinds that were there stay as they are.
+// Boxes of existing kinds stay in place.
 const build = view => {
   const kinds = kindsOf(view), before = new Map(boxes().map(box => [box.value, box.checked]));
   const isAny = kinds.some(([kind]) => !USUALLY_KEPT.includes(kind));
@@ -41,7 +42,7 @@ const build = view => {
 
 const costNow = ({ tensions }, { number, weight }) => tensions && tensions.has(number) ? BigInt(tensions.get(number).slack) * BigInt(weight) : 0n;
 
-// The questions, those of the dearest activities first. What rules nothing out is not asked for.
+// The questions, those of the dearest activities first. Activities that exclude nothing are skipped.
 const questionsOf = (view, mode) => {
   const { activities, period } = view.network, kinds = new Set(boxes().filter(box => box.checked).map(box => box.value));
   const open = [...activities.values()].filter(each => kinds.has(kindOf(each.number)) && each.upper - each.lower < period - 1);
@@ -61,7 +62,7 @@ const look = event => {
   return redraw();
 };
 
-// What one search came to; one without a number is of the network as it is.
+// The result of one search; one without a number is of the unchanged network.
 const showGain = gain => {
   if (gain.number === undefined) asked.before = gain.found;
   else asked.came.push(gain);
@@ -71,13 +72,13 @@ const showGain = gain => {
 
 const isOfNow = () => asked && asked.mark === markNow();
 
-// By how much a timetable is cheaper than the best one as it is; null where one of both is not there.
+// By how much a timetable is cheaper than the best one of the unchanged network; null if one of both is missing.
 const savedBy = (view, { number, found }) => {
   if (!found.times || !asked.before.times) return null;
   return BigInt(asked.before.cost) - (BigInt(found.cost) - MODES[asked.mode].paid(view.network.activities.get(number)));
 };
 
-// What helps, the most first: where there is no timetable as it is, each that has one.
+// What helps, the most first: if the unchanged network has no timetable, each change that gives one.
 const helpful = view => {
   const all = asked.came.map(gain => ({ ...gain, saved: savedBy(view, gain) }));
   const good = all.filter(({ saved, found }) => saved === null ? found.times && !asked.before.times : saved > 0n);
@@ -123,7 +124,7 @@ const contentOf = view => {
     element('p', { class: 'quiet' }, elided(good.length, MOST_SHOWN, 'that save something'))].filter(Boolean);
 };
 
-// The button that has the keys keeps them when the list grows.
+// A focused button keeps the focus when the list grows.
 const update = view => {
   if (!isTab('gains')) return;
   if (drawn === view && isOfNow()) return;

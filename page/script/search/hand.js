@@ -1,5 +1,5 @@
-// What a Worker tells of the rest beside a hand: the best timetable, or the nearest one, of the network with what the hand changes, in
-// which events are where the hand has them.
+// A Worker's answers on the rest beside a hand: the best timetable, or the nearest one, of the network with the hand's changes,
+// in which its events are at their places.
 
 import { edit, editsOf } from '../base/edits.js';
 import { follow } from '../base/following.js';
@@ -7,7 +7,7 @@ import { heldElsewhere, tellNearest } from './nearest.js';
 import { untilSure } from './pricing.js';
 import { does } from '../base/running.js';
 
-// What its searches change is as before afterwards.
+// The changes of its searches are undone afterwards.
 const tellBest = async (session, network, { edits, held, events }, tell, how) => {
   const tried = [...edits, ...held.map(([event, time]) => edit.fix(event, time))], { back } = follow({ network, times: new Map() }, tried);
   does(session, tried.map(({ line }) => line));

@@ -1,4 +1,4 @@
-// The least widening of each member of a conflict that mends it.
+// The least widening of each member of a conflict that repairs it.
 
 import { byDomains, byMember, bySearch, memberKey, widened } from './probing.js';
 
@@ -7,7 +7,7 @@ const RANKS = { possible: 0, untried: 1, undecided: 2, infeasible: 3 };
 
 const byMinutes = (one, other) => one.minutes - other.minutes || byMember(one.member, other.member);
 
-// The mends of a conflict, best first; whether each mends the whole network is asked until a time.
+// The repairs of a conflict, best first; until a time, each is also tried in the whole network.
 export const findMends = (probe, members, shape, nodes, until) => {
   const soft = members.filter(member => !probe.kept.has(memberKey(member)));
   const found = soft.map(member => mendOf(probe, members, member, shape, nodes)).filter(Boolean).sort(byMinutes);
@@ -15,8 +15,8 @@ export const findMends = (probe, members, shape, nodes, until) => {
   return found.sort((one, other) => RANKS[one.whole] - RANKS[other.whole] || byMinutes(one, other));
 };
 
-// The least widening of a member, later where earlier takes as many minutes; null where none is seen to mend. The least minutes of
-// an activity stay, but where the probe says that mends may lower them.
+// The least widening of a member, later if earlier takes as many minutes; null if none is found to repair it. The least minutes
+// of an activity stay, unless the probe permits repairs to lower them.
 const mendOf = (probe, members, member, shape, nodes) => {
   const { period } = probe.network;
   let best = null;
@@ -36,10 +36,10 @@ const mostCount = ({ of, bounds }, period) => of === 'event' ? period - bounds.l
 
 const roomOf = ({ of, bounds }, isLater) => of === 'event' ? Infinity : isLater ? GREATEST_BOUND - bounds.upper : loweredBy(bounds);
 
-// By how many minutes the least ones can be lowered; those that are not below 0 stay so.
+// By how many minutes the minimum can be lowered; it does not fall below 0 unless it was there.
 const loweredBy = ({ lower }) => lower >= 0 ? lower : GREATEST_BOUND + lower;
 
-// The minutes by which a circle or a way misses what it has to take; 1 where it is neither.
+// The minutes by which a circle or a path misses the required number; 1 if it is neither.
 const guessOf = ({ of, number }, shape, isLater) => {
   if (!shape) return 1;
   const [[, below], [above]] = shape.wanted, step = shape.steps.find(({ activity }) => of === 'activity' && activity.number === number);
@@ -52,15 +52,15 @@ const wholeWith = (probe, { member, after }, nodes) => {
   return byDomains(probe, whole) ? 'infeasible' : bySearch(probe, whole, nodes);
 };
 
-// The least number from 1 to a most that holds, where a number holds that is above one that does. The guess is tried first,
-// and where it is right two tests are enough. Null where no number holds.
+// The least number from 1 to a limit for which a test holds, if it holds for all greater ones too. The guess is tried
+// first; if it is right, two tests are enough. Null if the test fails at the limit.
 const leastNumber = (most, holds, guess) => {
   let low = 0, high = most + 1, wanted = guess;
   while (high - low > 1) {
     let middle = Math.floor((low + high) / 2);
     if (low < wanted && wanted < high) middle = wanted;
     else if (wanted === high) {
-      // The guess holds; where it is the least number, the one below does not.
+      // The guess passes; if it is the least number, the one below fails.
       middle = wanted - 1;
       wanted = 0;
     }

@@ -1,18 +1,18 @@
-// What minutes cost, as far as that is known, of the network that is shown. Workers of their own work it out, beside whatever else is
-// done, until the next step.
+// What minutes cost, as far as known, in the network shown. Separate Workers compute it in the background until the next step.
 
 import { display } from '../session/display.js';
 import { say } from '../base/elements.js';
 import { markNow, present } from '../session/session.js';
 import { soleWorker } from '../base/workers.js';
 
-// Of networks by their marks, of each question by its key the prices by minute; of the last networks alone, with so many times.
+// For networks by their marks, and each question by its key, the prices by minute; only of the last networks, with a limited
+// number of timetables.
 const known = new Map(), MOST_TIMES = 20000000, NONE = new Map();
 
-// One is left to the page of the processors, and four are enough; each worker is asked for so many minutes at once.
+// One processor is left to the page, and four are enough; each Worker gets this many minutes at once.
 const CREW = Math.min(4, Math.max(1, (navigator.hardwareConcurrency || 2) - 1)), PIECE = 6;
 
-// What is to be known, in this order.
+// The requested prices, in this order.
 const crew = Array.from({ length: CREW }, soleWorker);
 let wanted = [], hear = () => {};
 
@@ -41,7 +41,7 @@ const keep = (mark, question, prices) => {
   for (const old of [...known.keys()].slice(0, -1)) if (timesKnown() > MOST_TIMES) known.delete(old);
 };
 
-// An event's price does not depend on what holds it, so it stays known where that alone was changed.
+// An event's price does not depend on its window, so it stays known if only that was changed.
 export const carryPrices = (question, act) => {
   const prices = pricesOf(question);
   if (act() && question.of === 'event') keep(markNow(), question, prices);
@@ -62,7 +62,7 @@ const isOf = ({ mark, question }, other) => mark === markNow() && keyOf(question
 
 const askedNow = () => crew.map(worker => worker.of()).filter(Boolean);
 
-// The minutes of a question that are neither known nor asked for.
+// The minutes of a question that are neither known nor requested.
 const leftOf = question => {
   const asked = askedNow().filter(each => isOf(each, question)).flatMap(({ minutes }) => minutes), prices = pricesOf(question);
   return pricedMinutes(question).filter(minute => !prices.has(minute) && !asked.includes(minute));
@@ -80,8 +80,8 @@ const askNext = (asked = crew) => {
   else asked.filter(worker => !worker.of()).forEach(askOne);
 };
 
-// Works out what some questions ask, one after another, in the place of those before. Each is of an event, with its window, or of an
-// activity, with its span and weight. While something is dragged nothing else is asked.
+// Computes the answers to some questions, one after another, replacing earlier ones. Each is about an event, with its window, or
+// an activity, with its span and weight. While something is dragged nothing else is requested.
 export const wantPrices = questions => {
   const [first] = questions;
   wanted = questions;

@@ -1,4 +1,4 @@
-// A session whose searches begin with a timetable that is known: they tell none that is dearer, and look for cheaper ones alone.
+// A session whose searches start with a known timetable: they return none that is dearer, and search only for cheaper ones.
 
 import { edit, readEdit } from '../base/edits.js';
 import { does, openSession, prepared } from '../base/running.js';
@@ -8,8 +8,8 @@ const MOST_EVENTS = 3000;
 
 export const canPrime = times => times.size <= MOST_EVENTS;
 
-// A session of the network of a `dump`, which begins with some times where there are any. A search first tries what was an optimum before
-// an edit, so the timetable is made one: that of its events, each fixed at its time, without activities. Raises RunFault.
+// A session of the network of a `dump`, which starts with some times if there are any. A search first tries the optimum from
+// before an edit, so the timetable is made one: that of its events, each fixed at its time, without activities. Raises RunFault.
 export const sessionFrom = ([head, ...script], times) => {
   const isEvent = line => readEdit(line).kind === 'addEvent', period = Number(head.split(' ')[2]);
   if (!times || !canPrime(times)) return openSession({ period }, script);

@@ -1,6 +1,6 @@
-// Asks about sets of members: spans of activities, and fixed times and windows of events. What is not in a set is left out of
-// the run, and each part that the set's activities join and no window holds is held at 0 somewhere: such a part can be turned
-// as a whole, so this takes no timetable away from which another could not be turned.
+// Queries about sets of members: spans of activities, and fixed times and windows of events. Members outside a set are left
+// out of the run, and in each part that the set's activities connect and no window holds one event is held at 0: such a part
+// can be shifted as a whole, so this excludes no timetable that cannot be shifted into an admitted one.
 
 import { windowEdit } from '../base/edits.js';
 import { componentsOf, rowsText } from '../base/network.js';
@@ -10,7 +10,7 @@ import { run } from '../base/running.js';
 const isBinding = (member, period) => member.of === 'event' ? member.bounds.length < period
   : member.bounds.upper - member.bounds.lower < period - 1;
 
-// The members that rule something out: activities ascending, then events.
+// The members that exclude something: activities ascending, then events.
 const membersOf = network => {
   const activities = [...network.activities.values()].map(({ number, lower, upper }) => ({ of: 'activity', number, bounds: { lower, upper } }));
   const events = [...network.windows].map(([number, bounds]) => ({ of: 'event', number, bounds }));
@@ -29,13 +29,13 @@ export const widened = ({ of, bounds }, count, isLater, period) => {
 
 const keyOf = members => JSON.stringify(members.map(({ of, number, bounds }) => [of, number, Object.values(bounds)]).sort());
 
-// A probe of a network. `preferred` is the event that is held before others in its part.
+// A probe of a network. `preferred` is the event that is held in preference to others in its part.
 export const probeOf = network => ({ network, members: membersOf(network), preferred: null, known: new Map() });
 
-// From now on an event is held before others in its part, or none where it is null.
+// From now on an event is held in preference to others in its part, or none if it is null.
 export const prefer = (probe, event) => { probe.preferred = event; };
 
-// The run that asks for just some members.
+// The run with only some members.
 const baseOf = ({ network, preferred }, members) => {
   const { period, activities } = network, kept = members.filter(member => isBinding(member, period));
   const rows = kept.filter(({ of }) => of === 'activity').map(({ number, bounds }) => ({ ...activities.get(number), ...bounds }));
@@ -53,13 +53,13 @@ const baseOf = ({ network, preferred }, members) => {
   };
 };
 
-// Whether a domain is empty with the members alone: then they are infeasible, and else nothing is said.
+// Whether a domain is empty with only the members: then they are infeasible, and otherwise undecided.
 export const byDomains = (probe, members) => {
   const [reply] = run(baseOf(probe, members), ['domains']);
   return reply.slice(1).some(line => line.endsWith(':'));
 };
 
-// What a search of so many nodes says of the members alone; the same members are not searched again.
+// The result of a search with this many nodes of only the members; the same members are not searched again.
 export const bySearch = (probe, members, nodes) => {
   const key = `${nodes} ${keyOf(members)}`;
   if (!probe.known.has(key)) {

@@ -1,5 +1,5 @@
-// What a timetable would move is shown above the present one before it is taken or left: of one that was found, of a variant, and of the
-// nearest one, with what was moved held, which mends what is violated.
+// The moves of a timetable are shown above the present one before it is accepted or rejected: of one that was found, of a
+// variant, and of the nearest one, with the moved events held, which repairs violations.
 
 import { askedNow, askFor } from './asking.js';
 import { costMoreText, costName, costText } from '../session/costs.js';
@@ -16,8 +16,8 @@ import { stayingEvents } from '../session/trains.js';
 import { turned } from '../base/turning.js';
 import { countViolated, isMet } from '../base/viewing.js';
 
-// What is shown as proposed: its edits and words, and what the step is called that takes it; and what a search for one came to that shows
-// none, null where there is no such; and what was listed last.
+// The shown proposal: its edits and words, and the title of the step that accepts it; the result of a search without a proposal,
+// otherwise null; and the last list.
 let proposed = null, refusal = null, found = null, offered = [];
 
 const moreText = before => {
@@ -25,7 +25,8 @@ const moreText = before => {
   return costMoreText(BigInt(display.view.cost) - BigInt(before.cost ?? display.view.cost));
 };
 
-// Shows what edits would make above what is shown, which stays what it is; `told` says what they move, and `step` what takes them.
+// Shows the effect of edits above the present state, which does not change; `told` describes the moves, and `step` is the title
+// of accepting them.
 const propose = (lines, words, step, isToMeet = true) => {
   const before = display.view.before || display.view;
   refusal = null;
@@ -38,17 +39,17 @@ const propose = (lines, words, step, isToMeet = true) => {
   return tell();
 };
 
-// The same by a click; where it is drawn is brought to the front.
+// The same by a click; the view with the drawing is brought to the front.
 export const see = (...of) => {
   propose(...of);
   if (isTab('compare')) showTab('diagram');
   find('take-proposed').focus();
 };
 
-// The same of a timetable that was found.
+// The same for a timetable that was found.
 export const seeTimes = (times, title) => see(editsToTimes(nearer(times)), movesText(nearer(times)), { title });
 
-// Turned to agree with the one that is shown.
+// Shifted to agree with the one shown.
 const nearer = times => turned(times, display.view.before || display.view);
 
 const offer = ({ times, cost }) => {
@@ -57,7 +58,7 @@ const offer = ({ times, cost }) => {
   return element('li', {}, element('b', {}, name), isOther ? ` ${movesText(nearer(times))} ` : ' it is shown', button);
 };
 
-// The timetables that were found for the network that is shown. While something is tried, what was listed beside the present one stays.
+// The timetables found for the network shown. While something is tried, the list beside the present one stays.
 export const tellOffers = () => {
   const { view } = display, { open } = find('offers');
   if (!view || view.isTried) return;
@@ -84,7 +85,7 @@ const refusalText = ({ kind, event }, most) => {
 
 const mostMoved = () => find('most-moved').value ? Number(find('most-moved').value) : null;
 
-// What the search came to is shown as it ends, or is stopped, and has the keys where they are where they were.
+// Shows the result of the search when it ends, or is stopped; the focus stays where it was.
 const end = (held, most, focused) => {
   const isHere = [focused, find('stop'), document.body].includes(document.activeElement);
   if (!found) return;
@@ -96,7 +97,7 @@ const end = (held, most, focused) => {
   if (isHere) find(proposed ? 'take-proposed' : refusal && refusal.held ? 'why-not' : 'mend').focus();
 };
 
-// Looks for the nearest timetable, with what was moved held.
+// Searches for the nearest timetable, with the moved events held.
 export const mend = () => {
   if (askedNow()) return null;
   if (!countViolated(display.view)) return say('Nothing is violated, so there is nothing to mend.', true);

@@ -1,4 +1,4 @@
-// Searches for the best timetable. What they have come to is told as they go, adopted by a click, while one runs too, and gone on from.
+// Searches for the best timetable. Their results are shown while they run, adopted by a click at any time, and continued.
 
 import { askedNow, askFor, hearAsked, leaveAsked, stopAsking } from './asking.js';
 import { costText } from '../session/costs.js';
@@ -12,16 +12,17 @@ import { isSure } from '../base/replies.js';
 import { doStep, markNow } from '../session/session.js';
 import { turned } from '../base/turning.js';
 
-// The most that a search can be asked for.
+// The greatest number of seconds that can be requested.
 export const EVERY_ATTEMPT = 1e12;
 
-// What searches of one network, by its mark, have come to; whether it was offered; and the nodes and seconds before the search that runs.
+// The results of searches of one network, by its mark; whether they were offered; and the nodes and seconds before the running
+// search.
 let found = null, wasOffered = false, before = { nodes: 0, seconds: 0 };
 
-// It is told as long as its network is shown, with whatever times.
+// They are shown as long as their network is shown, with any times.
 const isOfNow = () => Boolean(found) && found.mark === markNow();
 
-// A search that was stopped, or ended without being sure, is gone on with.
+// A search that was stopped, or ended undecided, is resumed.
 const search = most => {
   if (!isOfNow()) found = { kind: 'none', nodes: 0, seconds: 0, mark: markNow() };
   before = isSure(found) ? { nodes: 0, seconds: 0 } : { nodes: found.nodes, seconds: found.seconds };
@@ -37,10 +38,10 @@ const hear = ({ found: now, nodes, isDone }) => {
   if (isSure(found) && !isDone) stopAsking();
 };
 
-// What searches of the network that is shown have come to; null where there was none.
+// The results of searches of the network shown; null if there was none.
 export const foundNow = () => isOfNow() ? found : null;
 
-// What another search of it has come to.
+// The result of another search of it.
 export const learnFound = now => {
   if (now.mark !== markNow()) return;
   found = { ...isOfNow() ? betterFound(found, now) : now, mark: now.mark, isStopped: isOfNow() && found.isStopped };
@@ -55,7 +56,7 @@ const end = seconds => {
   lead(find(found.kind === 'infeasible' ? 'ask-mends' : 'adopt'));
 };
 
-// Another network takes the place of the one that is shown.
+// Another network replaces the one shown.
 const begin = () => {
   found = null;
   wasOffered = false;
@@ -78,7 +79,7 @@ const tellButtons = asked => {
   for (const name of BUTTONS) find(name).disabled = Boolean(asked);
 };
 
-// What the Worker does now, or what searches of the network have come to.
+// The Worker's present task, or the results of searches of the network.
 const tell = () => {
   const asked = askedNow(), isSearching = Boolean(asked) && asked.kind === 'search', isOffered = isOfNow() && Boolean(found.times);
   const isTold = isOfNow() && (isSearching ? found.nodes > 0 : !asked);
@@ -95,14 +96,14 @@ const tell = () => {
   wasOffered = isOffered;
 };
 
-// Times are set by lines of their own, so that nothing is searched again when these lines are given once more.
+// Times are set by lines of their own, so that playing these lines again searches nothing.
 const adopt = () => {
   const { cost, kind } = found;
   if (doStep(timeEdits(turned(found.times, display.view)), { isFound: true })) say(`taken over: ${kind === 'optimum' ? 'the optimum' : 'the best that was found'}, ${costText(cost)}`);
   lead(find(askedNow() ? 'stop' : 'optimum'));
 };
 
-// A step ends what was asked of the network before it, and what was found for that is there again when it is taken back.
+// A step ends the tasks about the network before it, and its results return when the step is undone.
 export const searchingPanel = {
   begin,
   update: () => {

@@ -1,4 +1,4 @@
-// Whether a conflict is a circle of activities or a way between two windows, and what it takes along it.
+// Whether a conflict is a circle of activities or a path between two windows, and how long it takes.
 
 const startOf = step => step.isForward ? step.activity.first : step.activity.last;
 const endOf = step => step.isForward ? step.activity.last : step.activity.first;
@@ -6,7 +6,7 @@ const leastOf = steps => steps.reduce((sum, { activity, isForward }) => sum + (i
 const backOf = steps => [...steps].reverse().map(({ activity, isForward }) => ({ activity, isForward: !isForward }));
 const forwardOf = steps => steps.filter(step => step.isForward).length;
 
-// The circle or the way that some members are, or null where they are neither.
+// The circle or the path that some members form, or null if they are neither.
 export const shapeOf = (members, network) => {
   const used = members.filter(({ of }) => of === 'activity').map(({ number }) => network.activities.get(number));
   const windows = new Map(members.filter(({ of }) => of === 'event').map(({ number, bounds }) => [number, bounds]));
@@ -19,7 +19,7 @@ export const shapeOf = (members, network) => {
   return shapeAlong(turned(steps), network.period, windows);
 };
 
-// The steps from an event on, as long as there is just one that was not gone; at the first event of a circle any.
+// The steps from an event on, as long as there is exactly one unused; at the first event of a circle any.
 const walk = (start, activities) => {
   const left = [...activities], steps = [];
   for (let event = start; left.length;) {
@@ -32,13 +32,13 @@ const walk = (start, activities) => {
   return steps;
 };
 
-// The steps in the direction in which they take time rather than give it back; else in that of most activities.
+// The steps in the direction in which they take time rather than subtract it; otherwise in that of most activities.
 const turned = steps => {
   const back = backOf(steps), sum = leastOf(steps) - leastOf(back);
   return sum > 0 || (sum === 0 && forwardOf(steps) >= forwardOf(back)) ? steps : back;
 };
 
-// A shape with the least and the most minutes along it, and those that it would have to take: the nearest below and above.
+// A shape with the least and the most minutes along it, and the possible durations: the nearest below and above.
 const shapeAlong = (steps, period, windows) => {
   const least = leastOf(steps), most = -leastOf(backOf(steps)), start = startOf(steps[0]), end = endOf(steps[steps.length - 1]);
   let shortest = 0, width = 0;

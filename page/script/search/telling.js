@@ -1,4 +1,4 @@
-// The answer to why, in a planner's words; each mend is done by one click.
+// The answer to `Why?`, in a planner's words; one click makes each repair.
 
 import { askFor } from './asking.js';
 import { conflictsOf } from '../session/conflicts.js';
@@ -29,7 +29,7 @@ const showWhy = found => {
   redraw();
 };
 
-// The members of the kinds that are not to be changed; `fixed` are fixed times and windows.
+// The members of the kinds that must not change; `fixed` are fixed times and windows.
 const keptMembers = () => {
   const kinds = new Set(find('kept-kinds').value.split(',').map(kind => kind.trim()).filter(Boolean));
   const { activities, windows } = display.view.network;
@@ -42,7 +42,7 @@ const nameOf = ({ of, number }, network) => of === 'event' ? eventName(number) :
 
 const boundsOf = (of, bounds, period) => of === 'event' ? windowText(bounds, period) : spanMinutes(bounds.lower, bounds.upper);
 
-// The members in the order of the circle or way, a window beside the end that it holds.
+// The members in the order of the circle or path, a window beside its event.
 const ordered = ({ members, shape }) => {
   if (!shape) return members;
   const memberOf = (of, number) => members.find(member => member.of === of && member.number === number);
@@ -120,10 +120,10 @@ const update = view => {
 
 export const tellingPanel = { update };
 
-// The events at which the timetable shown violates something: a conflict is looked for there first.
+// The events at which the timetable shown violates something: a conflict is searched for there first.
 const eventsViolated = view => [...conflictsOf(view).all.flatMap(({ activity: { first, last } }) => [first, last]), ...view.violations ? view.violations.events : []];
 
-// Asks why, with some events held at minutes. A timetable that is known is the answer at once.
+// Asks why, with some events held at minutes. If a timetable is known, that is the answer at once.
 export const askWhy = held => {
   showTab('why');
   const known = held.length ? null : bestKnown();

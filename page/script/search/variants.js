@@ -1,5 +1,5 @@
-// Two ways side by side: what is shown is kept as A or as B, and both are told beside each other. Where just one is kept, the other
-// is what is shown. They stay as long as the page, whatever else is opened.
+// Two variants side by side: the present state is kept as A or as B, and both are compared. If only one is kept, the other is the
+// present state. They stay as long as the page, whatever else is opened.
 
 import { besideConnections, besideDiagram, besideTable } from '../draw/beside.js';
 import { editsBetween } from '../base/between.js';
@@ -30,7 +30,7 @@ const keep = (name, isByKey = false) => {
   if (isByKey) find('tab-compare').focus();
 };
 
-// The two that are told; one that is not kept is what is shown, and the second then.
+// The two that are compared; one that is not kept is the present state, and then the second.
 const sides = () => {
   const found = NAMES.filter(name => kept.has(name)).map(name => ({ name, ...kept.get(name) }));
   return found.length === 1 ? [...found, { name: 'now', view: display.view, title: session.opened.title }] : found;
@@ -50,7 +50,7 @@ const forget = name => {
   redraw();
 };
 
-// Takes one over as one step, which undo takes back.
+// Takes one over as one step, which undo reverts.
 const take = name => {
   const { view } = kept.get(name), [wanted, now] = [view, display.view].map(({ network }) => minutesText(network.period));
   if (!isOfPeriod(view)) return say(`${name} repeats after ${wanted}, and what is open after ${now}: open its files.`, true);
@@ -59,14 +59,14 @@ const take = name => {
 
 const button = (text, onclick, more = {}) => element('button', { type: 'button', onclick, ...more }, text);
 
-// The lines by which what is shown becomes another view of the same period.
+// The lines that turn the present state into another view of the same period.
 const linesTo = view => editsBetween({ network: display.view.network, times: timesNow() }, view);
 
 const isOfPeriod = view => view.network.period === display.view.network.period;
 
 const isShown = view => view === display.view || (isOfPeriod(view) && view.labels === display.labels && !linesTo(view).length);
 
-// What has the same events, activities and names is drawn above what is shown before it is taken over.
+// A variant with the same events, activities and names is drawn above the present state before it is taken over.
 const isSeen = view => view.network.shape === display.view.network.shape && view.labels === display.labels && !isShown(view);
 
 const seeVariant = name => {
@@ -90,7 +90,7 @@ const violatedRow = both => {
   return rowOf('violated', [...counts.map(cell), more]);
 };
 
-// Cost in all and by kind, and what is violated.
+// Total cost and by kind, and violations.
 const figures = (both, costs) => {
   const inAll = `${costName()} in all`, rows = (costs || []).map(([kind, one, other]) =>
     row(kind === 'in all' ? inAll : `${costName()} of ${kind}`, one.toLocaleString('en'), other.toLocaleString('en'), signed(other - one), kind === 'in all' ? 'sum' : null));
@@ -99,7 +99,7 @@ const figures = (both, costs) => {
   return tableOf('times beside', ['', ...heads, 'change'], [violatedRow(both), sum, ...unknown, ...rows].filter(Boolean));
 };
 
-// What is told of an event leads to it, where it is in the network that is shown.
+// The difference of an event links to it, if it is in the network shown.
 const item = ({ event, text }) => element('li', {}, display.view.domains.has(event)
   ? element('button', { class: 'link', type: 'button', onclick: () => showRow(event) }, text) : text);
 
@@ -124,7 +124,7 @@ const lineChoice = ({ names, name }) => {
 
 const samePeriod = ([one, other]) => one.view.network.period === other.view.network.period;
 
-// The line in one drawing, or where its minutes are not of the same period in two.
+// The line in one drawing, or in two if the periods differ.
 const diagramsOf = (both, name) => {
   if (samePeriod(both)) return [besideDiagram(both, name), element('p', { class: 'quiet' }, `Dashed: ${both[0].name}. Whole: ${both[1].name}.`)];
   return both.flatMap(({ view, name: side }) => within(view, () => {
@@ -147,7 +147,7 @@ const changesPart = ([before, after]) => {
   return [element('h3', {}, 'What they differ in'), ...listOf('Network', network), ...listOf('Times', times)];
 };
 
-// What is told, one part below another; in a drag just what is followed with the eyes is told anew.
+// The comparison, one part below another; during a drag only the visible changes are drawn.
 const PARTS = [
   { draw: both => [figures(both, costsBeside(...both.map(({ view }) => view)))], isFollowed: true },
   { draw: changesPart, isFollowed: false },

@@ -1,16 +1,16 @@
-// What would help: the best timetable with each of some spans wider alone, beside the best one as the network is. It begins with the one
-// that is known; each search has its time, and what it has come to then is told.
+// What would help: the best timetable with each of some spans wider, one at a time, compared with the best one of the unchanged
+// network. It starts with the known timetable; each search has its time, and its result then is reported.
 
 import { readNetwork } from '../base/network.js';
 import { FIRST_NODES, paced } from './pacing.js';
 import { sessionFrom } from './priming.js';
 import { exactly, isSure } from '../base/replies.js';
 
-// So many nodes a search has at most, and so many milliseconds: the first one, of the network as it is; and each other one where that
-// came to its end, and where it did not.
+// The greatest nodes and milliseconds of a search: the first one, of the unchanged network; and each other one if that was
+// decided, and if it was not.
 const MOST_NODES = 100000, FIRST_TIME = 10000, SURE_TIME = 30000, TIME = 2000;
 
-/** What a search comes to in its time; each step is told.
+/** The result of a search in its time; each step is reported.
  * @param {function(any): any} tell */
 const bestWithin = (session, events, time, tell) => {
   const until = performance.now() + time;
@@ -25,7 +25,7 @@ const bestWithin = (session, events, time, tell) => {
 
 const isBetter = (found, before) => isSure(found) || (Boolean(found.times) && !(before.times && before.cost <= found.cost));
 
-/** A timetable that was found with a wider span, as one of the network as it is; none where it needs what the span is wider by.
+/** A timetable that was found with a wider span, as one of the unchanged network; none if it needs the additional minutes.
  * @param {any} network
  * @param {any} question
  * @param {any} found */
@@ -35,7 +35,8 @@ export const asItIs = ({ period, activities }, { number, after, paid }, { times,
   return had < lower || had > upper ? { kind: 'none' } : { kind: 'stopped', cost: exactly(String(BigInt(cost) - BigInt(paid))), times };
 };
 
-// Tells what each of some questions comes to, and the best timetable as it is, at first and where another question finds a better one.
+// Reports the result of each question, and the best timetable of the unchanged network, at first and when another question finds
+// a better one.
 export const tellGains = (script, { questions, best, events }, tell) => {
   const network = readNetwork(script);
   let before = best || { kind: 'none' }, session = sessionFrom(script, before.times);
@@ -44,7 +45,7 @@ export const tellGains = (script, { questions, best, events }, tell) => {
     before = found;
     tell({ gain: { found } });
   };
-  // A session that came to an optimum begins with that itself.
+  // A session that reached an optimum starts with that itself.
   const learnBy = act => {
     const { cost } = before;
     act();

@@ -1,5 +1,5 @@
-// What the working timetable violates, at its place: activities with the minutes had and wanted, and events that are not where
-// they are held.
+// The violations of the working timetable, at their places: activities with the actual and required minutes, and events
+// outside their windows.
 
 import { activityName, kindOf, lengthText, minutesText, spanText, windowText } from './names.js';
 import { trainAt } from './trains.js';
@@ -19,7 +19,7 @@ const conflictOf = (view, number) => {
   return { number, activity, had, missed, short, text: `${short} ${kind}`, isRun: kind === 'run', detail };
 };
 
-// The violated activities of what is shown: all of them, and by each event at which one begins or ends.
+// The violated activities of the state shown: all of them, and for each event those that begin or end there.
 export const conflictsOf = view => {
   const before = known.get(view);
   if (before) return before;
@@ -41,11 +41,11 @@ const found = view => {
 
 export const conflictsAt = (view, event) => conflictsOf(view).at.get(event) || NONE;
 
-// Those that are told in the row of an event: of its own train just what ends there.
+// Those in the row of an event: of its own train only the ones that end there.
 export const conflictsOfRow = (view, event) => conflictsAt(view, event).filter(({ activity: { first, last } }) =>
   last === event || !trainAt(first) || !trainAt(first).train.events.includes(last));
 
-// Whether the time of an event lies outside the window that holds it, where others have no times too.
+// Whether the time of an event is outside its window, if others have no times too.
 export const isOutside = ({ network: { windows, period }, times }, event) => {
   const window = windows.get(event);
   return Boolean(window) && times.has(event) && (times.get(event) - window.first + period) % period >= window.length;
@@ -53,11 +53,11 @@ export const isOutside = ({ network: { windows, period }, times }, event) => {
 
 export const isAlarming = (view, event) => isOutside(view, event) || conflictsOf(view).at.has(event);
 
-// The first of some conflicts with the count of the others, and the names of several; '' where there is none.
+// The first of some conflicts with the number of the others, and the names of several; '' if there is none.
 export const shortConflicts = ([first, ...others]) => first ? `✕ ${first.text}${others.length ? ` +${others.length}` : ''}` : '';
 
 export const detailsOf = conflicts =>
   conflicts.slice(0, MOST_TOLD).map(({ activity, detail }) => `${activityName(activity)} ${detail}`).join('\n');
 
-// The words for an event that is not where it is held.
+// The text for an event outside its window.
 export const outsideText = ({ network: { windows, period } }, event) => `not ${windowText(windows.get(event), period)}`;

@@ -1,4 +1,5 @@
-// What two networks with their timetables differ in, in the words of the Python package's `compare`: network, times, cost by kind.
+// The differences of two networks with their timetables, in the words of the Python package's `compare`: network, times, cost by
+// kind.
 
 import { within } from './display.js';
 import { noLabels } from '../base/labels.js';
@@ -29,13 +30,13 @@ const networkChanges = (before, after) => {
   return [...activityChanges(old, now), ...eventChanges(old, now), period].filter(Boolean);
 };
 
-// By how many minutes a time moved, the shorter way; later where both are as long.
+// By how many minutes a time moved, the shorter way; later if both ways are equally long.
 const movedBy = (old, now, period) => {
   const later = (((now - old) % period) + period) % period;
   return 2 * later <= period ? later : later - period;
 };
 
-// The same for all events of trains: what moves with a train's first moved event is told the way round that it went.
+// The same for all events of trains: those that move with a train's first moved event are reported in its direction.
 const movesOf = (old, now, { network: { period }, trains }) => {
   const shared = [...now.keys()].filter(event => old.has(event)), moves = new Map(shared.map(event => [event, movedBy(old.get(event), now.get(event), period)]));
   for (const { events } of trains) {
@@ -52,7 +53,7 @@ const signed = minutes => `${minutes > 0 ? '+' : '−'}${minutesText(Math.abs(mi
 
 const timeOf = (times, event) => times.has(event) ? clock(times.get(event)) : 'no time';
 
-// The times after the change, where what nothing holds is turned to agree with those before, and what was turned.
+// The times after the change, after shifting what nothing holds to agree with those before, and what was shifted.
 const turnedAfter = (before, { network, times }) => {
   const { period } = network, isAlike = before.network.period === period, made = new Map(times);
   const turns = isAlike ? turnsOf(network, times, before.times).filter(({ events }) => events.length > 1) : [];
@@ -63,7 +64,7 @@ const turnedAfter = (before, { network, times }) => {
   return { made, texts };
 };
 
-// The times that are other, or that all of them moved alike; what nothing holds is turned to agree first.
+// The times that differ, or that all of them moved alike; what nothing holds is first shifted to agree.
 const timeChanges = (before, after) => {
   const old = before.times, { made, texts } = turnedAfter(before, after), moves = movesOf(old, made, after), [first = 0] = moves.values();
   if (first && moves.size > 1 && [...moves.values()].every(each => each === first)) return [...texts, { text: `all ${moves.size} times moved by ${signed(first)}` }];
@@ -83,7 +84,7 @@ const costsOf = ({ network, tensions, labels }) => {
   return found;
 };
 
-// The cost by kind, dearest after the change first, and in all; null where a time is missing.
+// The cost by kind, dearest after the change first, and in all; null if a time is missing.
 export const costsBeside = (before, after) => {
   if (before.missing || after.missing) return null;
   const [old, now] = [before, after].map(costsOf), at = (costs, kind) => costs.get(kind) || 0n;
@@ -92,7 +93,7 @@ export const costsBeside = (before, after) => {
   return [...kinds.map(kind => [kind, at(old, kind), at(now, kind)]), ['in all', BigInt(before.cost), BigInt(after.cost)]];
 };
 
-// What they differ in but for cost; names are those after the change, and else those before.
+// All differences except the cost; names are those after the change, or otherwise those before.
 export const differences = (before, after) => {
   const labels = noLabels();
   for (const kind of ['events', 'kinds']) labels[kind] = new Map([...before.labels[kind], ...after.labels[kind]]);

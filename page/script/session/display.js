@@ -1,11 +1,11 @@
-// What is shown, and what of it is chosen. It is changed by the functions here alone, which draw nothing: session.js calls them.
+// The state shown, and what is chosen in it. Only the functions here change it; they draw nothing: session.js calls them.
 
 import { noLabels } from '../base/labels.js';
 
 let view = null, labels = noLabels(), places = new Map(), chosen = null, chosenLine = null;
 
-// The same, to be read: the state that was told last, null where none was; the names of what is open and the places of its stations;
-// an event, and a line by its name.
+// The same, read-only: the last view, null if there was none; the names of the open network and the places of its stations; an
+// event, and a line by its name.
 export const display = Object.freeze({
   get view() { return view; },
   get labels() { return labels; },

@@ -1,4 +1,4 @@
-// The minutes that are shown: all of a period, or a part of them. A diagram shows one period or two, and strips at most one.
+// The minutes shown: all of a period, or a part of them. A diagram shows one period or two, and strips at most one.
 
 import { display } from './display.js';
 
@@ -25,7 +25,7 @@ export const minutesOfStrips = () => {
 
 export const isZoomed = () => minutesOfDiagram().count < kept.turns * periodNow();
 
-// Shows other minutes, as many as there are at most; false where they are those that are shown.
+// Shows other minutes, as many as there are at most; false if they are already shown.
 const showMinutes = (first, count) => {
   const before = minutesOfDiagram(), whole = kept.turns * periodNow();
   kept = { ...kept, first, count: within(count, Math.min(LEAST, whole), whole) };
@@ -40,7 +40,7 @@ export const showTwice = isOn => {
   if (isAll) showMinutes(0, Infinity);
 };
 
-// Shows so many times as many minutes; one of them stays where it is.
+// Shows a multiple of the minutes; one of them stays in place.
 export const zoomMinutes = (factor, at) => {
   const { first, count } = minutesOfDiagram(), made = within(count * factor, Math.min(LEAST, periodNow()), kept.turns * periodNow());
   return showMinutes(at - (at - first) * made / count, made);
@@ -53,7 +53,7 @@ export const isShown = minute => {
   return minute + Math.ceil((first - minute) / period) * period < first + count;
 };
 
-// Shows a minute of the period in the middle, where it is not shown.
+// Centers a minute of the period, if it is not shown.
 export const bringMinute = minute => {
   const { count } = minutesOfDiagram();
   return !isShown(minute) && showMinutes(minute - count / 2, count);

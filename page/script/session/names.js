@@ -1,4 +1,4 @@
-// Events and activities in a planner's words: by stations and lines where there are labels, else by numbers.
+// Events and activities in a planner's words: by stations and lines if there are labels, otherwise by numbers.
 
 import { display } from './display.js';
 
@@ -8,10 +8,10 @@ const SHORT = new Map([['departure', 'dep.'], ['arrival', 'arr.']]);
 
 export const labelOf = event => display.labels.events.get(event) || NONE;
 
-// What an activity is, as the labels say.
+// The kind of an activity, by the labels.
 export const kindOf = number => display.labels.kinds.get(number) || 'activity';
 
-// Of trains that begin alike one is told apart from the others by its minute, where an event of it is given.
+// Among trains with the same beginning, one is distinguished by its minute, if an event of it is given.
 export const trainName = ({ line, to }, event) => `${[line, to].filter(Boolean).join(' to ') || 'a train'}${twinText(event)}`;
 
 export const twinText = event => display.view.twins?.has(event) ? ` (${display.view.twins.get(event)})` : '';
@@ -42,16 +42,16 @@ export const activityName = ({ number, first, last }) => {
   return `${kind} at ${where} ${trains[0]} ${trainName(from, first)} ${trains[1]} ${trainName(to, last)}`;
 };
 
-// A name in a drawing, where there is room for so many letters.
+// A name in a drawing, with room for this many letters.
 export const shortText = (name, most) => name.length <= most ? name : `${name.slice(0, most - 1).trimEnd()}…`;
 
-// How many minutes lie between two marks of an axis that shows so many of a period, where there is room for so many marks.
+// How many minutes are between two marks of an axis that shows this many of a period, with room for this many marks.
 export const stepOf = (count, period = count, room = period > 60 ? 7 : 12) =>
   [1, 2, 5, 10, 15, 30, 60, 120, 240].find(step => count / step <= Math.min(room, period > 60 ? 24 : 12)) || 360;
 
 const twoDigits = number => String(number).padStart(2, '0');
 
-// Above an hour all is told with the hour.
+// Above an hour all minutes are written with the hour.
 export const isOfHours = () => display.view.network.period > 60;
 
 const hours = minutes => `${Math.floor(minutes / 60)}:${twoDigits(minutes % 60)}`;
@@ -60,14 +60,14 @@ const hours = minutes => `${Math.floor(minutes / 60)}:${twoDigits(minutes % 60)}
 const isLong = minutes => isOfHours() && Math.abs(minutes) >= 60;
 export const lengthText = (minutes, isHours = isLong(minutes)) => isHours ? `${minutes < 0 ? '-' : ''}${hours(Math.abs(minutes))}` : String(minutes);
 
-// What stands after that.
+// The unit after that.
 export const unitText = minutes => isLong(minutes) ? 'h' : minutes === 1 ? 'minute' : 'minutes';
 export const minutesText = count => `${lengthText(count)} ${unitText(count)}`;
 
 // By how many minutes something is later or longer.
 export const signedMinutes = more => more > 0 ? `+${lengthText(more)}` : more < 0 ? `−${lengthText(-more)}` : '0';
 
-// A span, of which both ends are told as the longer one is.
+// A span, both of whose ends are written like the longer one.
 export const spanText = (lower, upper) => {
   const ends = [lower, upper].map(end => lengthText(end, isLong(lower) || isLong(upper)));
   return lower === upper ? ends[0] : ends.join(' to ');
@@ -77,7 +77,7 @@ export const spanMinutes = (lower, upper) => `${spanText(lower, upper)} ${isLong
 // A minute of the period, as `:07`, or `23:41`.
 export const clock = minute => isOfHours() ? hours(minute) : `:${twoDigits(minute)}`;
 
-// The same in a field: minutes that are not told with the hour stand there as a number.
+// The same in a field: minutes that are written without the hour are numbers there.
 export const minuteField = minute => isOfHours() ? clock(minute) : String(minute);
 
 // The same in a table of minutes, as `07`.
@@ -86,7 +86,7 @@ export const bareClock = minute => clock(minute).replace(/^:/, '');
 export const windowText = ({ first, length }, period) => length === 1 ? `at ${clock(first)}`
   : `from ${clock(first)} to ${clock((first + length - 1) % period)}`;
 
-// Runs of minutes, each as its first and last one; a run that goes over the end of the period is one.
+// Runs of minutes, each as its first and last one; a run that wraps around the end of the period is one.
 export const runsOf = minutes => {
   const runs = [];
   for (const minute of minutes) {
@@ -102,5 +102,5 @@ export const domainText = (minutes, period) => {
   return runsOf(minutes).map(([first, last]) => first === last ? clock(first) : `${clock(first)}–${clock(last)}`).join(', ');
 };
 
-// When an event was that another timetable moves, which is shown before it is taken; '' where it does not.
+// The previous time of an event that a proposed timetable moves; '' if it does not.
 export const oldText = ({ before, times }, event) => before?.times.has(event) && before.times.get(event) !== times.get(event) ? bareClock(before.times.get(event)) : '';

@@ -1,5 +1,5 @@
-// The session: what was opened, the steps since, and which of them are done. What is shown is what a session of the program tells,
-// which is kept open and asked the lines of each step alone; it can be opened anew from the base and all lines.
+// The session: the opened files, the steps since, and which of them are done. The replies of a session of the program are shown,
+// which is kept open and receives only the lines of each step; it can be reopened from the base and all lines.
 
 import { beginDisplay, display, setChosen, setChosenLine, setLabels, setView, within } from './display.js';
 import { editsOf } from '../base/edits.js';
@@ -16,17 +16,17 @@ import { countText, editsText, faultInWords, refusalText } from './wording.js';
 
 const state = { opened: null, steps: [], place: 0 };
 
-// The same, to be read.
+// The same, read-only.
 export const session = Object.freeze({
   get opened() { return state.opened; },
   get steps() { return state.steps; },
   get place() { return state.place; },
 });
 
-// The program's session, null where it has to be opened anew; what it told last, of the state that it has; and the lines of a
-// drag's step that it has beside those of the steps, with those that take them back, null where there are none.
+// The program's session, null if it must be reopened; its last replies, on its present state; and the lines of a drag's step
+// that it has received beyond those of the steps, with those that undo them, null if there are none.
 let kept = null, latest = null, tried = null;
-// What it told of the present step.
+// Its replies on the present step.
 let settled = null;
 
 // The base, and the lines of the steps that are done since.
@@ -35,15 +35,15 @@ export const present = () => ({ base: state.opened.base, lines: journal() });
 export const timesNow = () => settled.times;
 export const networkNow = () => settled.network;
 
-// A mark of the network that is shown, as which each step comes back that changed it.
+// A mark of the network shown, which returns with each step that changed it.
 let last = 0;
 export const markNow = () => state.place ? state.steps[state.place - 1].mark : state.opened.mark;
 const markAfter = (network, before, mark) => network === before ? mark : last += 1;
 
 const NO_STEPS = { steps: [], labels: null };
 
-// What steps that were done before make of what a session has, which does them, each with its lines and its title, and all with the
-// same names. Raises RunFault where a line is refused.
+// The views of earlier steps in a session that repeats them, each with its lines and its title, and all with the same names.
+// Raises RunFault if a line is refused.
 const doneAgain = (opened, first, { steps, labels }, mark) => {
   let [now, at] = [first, mark];
   const made = steps.map(({ lines, title }) => {
@@ -57,7 +57,7 @@ const doneAgain = (opened, first, { steps, labels }, mark) => {
   return { steps: made, now };
 };
 
-// A session of a base after what was done with it before, and what it tells then. Raises RunFault, in words.
+// A session of a base that has repeated earlier steps, and its replies. Raises RunFault, in words.
 const openedWith = (base, labels, again, mark) => {
   try {
     const { session: opened, network, times } = openFirst(base);
@@ -71,8 +71,7 @@ const openedWith = (base, labels, again, mark) => {
   }
 };
 
-// Opens a base with its labels and places, does what was done with it before, and shows it. Raises RunFault, and then nothing has
-// changed.
+// Opens a base with its labels and places, repeats earlier steps, and shows it. Raises RunFault, and then nothing has changed.
 export const openBase = (base, { title = '', labels = noLabels(), places = new Map(), again = NO_STEPS } = {}) => {
   const mark = last += 1, { opened, network, times, steps, latest: made } = openedWith(base, labels, again, mark);
   settled = made;
@@ -89,8 +88,8 @@ const close = () => {
   [kept, latest, tried] = [null, settled, null];
 };
 
-// Does something with the session, which is opened at the present step where it is not open. After a fault it is opened anew, so
-// that nothing is lost; where memory was wanted, that is done once more at once.
+// Uses the session, which is opened at the present step if it is not open. After a fault it is reopened, so that nothing is
+// lost; if it was out of memory, the use is repeated once at once.
 const withSession = (act, isAgain = false) => {
   try {
     const { base, lines } = present();
@@ -103,7 +102,7 @@ const withSession = (act, isAgain = false) => {
   }
 };
 
-// The same; a fault is told, and null given.
+// The same; a fault is reported, and null returned.
 const toldWith = act => {
   try {
     return withSession(act);
@@ -114,7 +113,7 @@ const toldWith = act => {
   }
 };
 
-// Has the session do some edits. Where one is refused, those before it are taken back, and the refusal is given; '' where none is.
+// Sends some edits to the session. If one is refused, those before it are undone, and the refusal is returned; otherwise ''.
 const refusalOf = edits => {
   for (const [place, { line }] of edits.entries()) {
     const [reply] = kept.ask(line);
@@ -125,15 +124,15 @@ const refusalOf = edits => {
   return '';
 };
 
-// What the session tells after some edits, which it has done; what they cannot have changed is not asked.
+// The replies of the session after some edits, which it has made; only those that may have changed are queried.
 const lookAfter = edits => {
   const { network, times, questions } = follow(latest, edits);
   latest = { ...latest, network, times, ...look(kept, network, questions) };
   return latest;
 };
 
-// Has the session try some edits after the present step, in the place of those tried before; false where one is refused, which is
-// told, and then nothing has changed.
+// Makes the session try some edits after the present step, instead of those tried before; false if one is refused, which is
+// reported, and then nothing has changed.
 const tries = more => toldWith(() => {
   const edits = [...tried ? neededBefore(tried.back, more) : [], ...more], refusal = refusalOf(edits);
   if (refusal) say(refusal, true);
@@ -146,22 +145,23 @@ const tries = more => toldWith(() => {
 
 const isTried = more => Boolean(tried) && tried.edits.length === more.length && tried.edits.every(({ line }, place) => line === more[place].line);
 
-// Shows what some edits, or their lines, would make, as a step of a drag, or above what is `before` it; a title says in a planner's words what they do.
+// Shows the effect of some edits, or their lines, as a step of a drag, or above the state `before` it; a title describes them in
+// a planner's words.
 export const preview = (more, title = '', before = null) => {
   if (tries(editsOf(more))) show({ ...latest, title, before, isTried: true });
 };
 
-// The step that was done last; what was opened where none was.
+// The last step; the opened files if there is none.
 export const stepNow = () => state.steps[state.place - 1] || state.opened;
 
-// What was tried is of the present step from now on.
+// The tried edits belong to the present step from now on.
 const settle = () => {
   [settled, tried] = [latest, null];
 };
 
-// Does some edits, or their lines, as one step, with other names or without, which can be undone; false where one is refused,
-// and then nothing has changed. A title says in a planner's words what they do; what `isFound` is a timetable that was found, and
-// `own` are the edits of the hand, where others follow it, which `also` says.
+// Makes some edits, or their lines, as one step, with other names or without, which can be undone; false if one is refused, and
+// then nothing has changed. A title describes them in a planner's words; `isFound` marks a timetable that was found, and `own`
+// are the edits of the hand, if others follow it, which `also` describes.
 export const doStep = (given, { title = '', labels = display.labels, isFound = false, own = given, also = '' } = {}) => {
   const more = editsOf(given), hand = editsOf(own);
   if (!isTried(more) && !tries(more)) {
@@ -179,7 +179,7 @@ export const doStep = (given, { title = '', labels = display.labels, isFound = f
   return true;
 };
 
-// Makes more edits a part of the step that was done last, which has another title then.
+// Adds more edits to the last step, which gets another title.
 export const extendStep = (more, title) => {
   const step = stepNow();
   if (!tries(more)) return refresh();
@@ -188,7 +188,7 @@ export const extendStep = (more, title) => {
   return show({ ...latest, title });
 };
 
-// Has the session take back what was tried.
+// Makes the session undo the tried edits.
 const leaveTried = () => {
   if (tried) toldWith(() => refusalOf(tried ? tried.back : []));
   [latest, tried] = [settled, null];
@@ -200,7 +200,7 @@ export const refresh = () => {
   show({ ...settled });
 };
 
-// Goes to the state after so many steps; where the session ends by a fault, nothing has changed.
+// Goes to the state after this many steps; if the session ends by a fault, nothing has changed.
 const go = (place, word) => {
   if (place < 0 || place > state.steps.length) return;
   const back = state.steps.slice(place, state.place).reverse().flatMap(step => step.back);
@@ -230,13 +230,13 @@ export const eventsMoved = () => {
   return new Set(done.slice(other + 1).flatMap(({ edits, own = edits }) => own.map(({ numbers }) => numbers[0])));
 };
 
-// The replies to questions, of which the state knows nothing. Raises RunFault.
+// The replies to queries, which do not affect the state. Raises RunFault.
 export const askSession = questions => {
   leaveTried();
   return withSession(() => questions.map(question => kept.ask(question)));
 };
 
-// Panels are drawn in the order in which they are listed: `begin` is called where another base is opened, and `build` where the
+// Panels are drawn in the order in which they are listed: `begin` is called when another base is opened, and `build` when the
 // network has other events or activities.
 const panels = [];
 
@@ -252,7 +252,7 @@ const show = view => {
   setView(Object.assign(view, view.missing && ofTimed(view), { labels: display.labels, lastDomains: before ? lastDomains(before) : view.domains }));
   const isBuilt = !before || before.labels !== view.labels || before.network.shape !== view.network.shape;
   Object.assign(view, isBuilt ? groupsOf(view) : { trains: before.trains, lines: before.lines });
-  // Names stay while something is dragged.
+  // Names do not change while something is dragged.
   view.twins = view.isTried && !isBuilt ? before.twins : twinsOf(view);
   redraw(isBuilt);
 };
@@ -268,7 +268,7 @@ const lastDomains = view => {
   return new Map([...view.domains].map(([event, minutes]) => [event, minutes.length ? minutes : view.lastDomains.get(event) || []]));
 };
 
-// Shows nothing but a view that no run has told, as a report has one.
+// Shows a view without a run, such as that of a report.
 export const readView = (view, places) => {
   beginDisplay(view.labels, places);
   setView(Object.assign(view, { lastDomains: view.domains }));
@@ -284,7 +284,7 @@ export const choose = event => {
   redraw();
 };
 
-// Chooses the first of some events where the chosen one is none of them.
+// Chooses the first of some events, unless the chosen one is among them.
 export const chooseAmong = events => {
   if (!events.includes(display.chosen)) setChosen(events.length ? events[0] : null);
 };

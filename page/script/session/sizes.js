@@ -1,4 +1,4 @@
-// How large the pictures on the screen are: they fill what their views leave them.
+// The sizes of the pictures on the screen: they fill their views.
 
 import { display } from './display.js';
 import { find } from '../base/elements.js';
@@ -6,10 +6,10 @@ import { minutesOfDiagram } from './extent.js';
 import { redraw } from './session.js';
 
 const PICTURES = ['diagram', 'corridor', 'netgraph'];
-// What was measured, until it may be another size: measuring has a browser lay out the page.
+// The measured sizes, until they may change: measuring makes a browser lay out the page.
 const rooms = new Map(), sizes = new Map();
 
-// What is a little higher than its view by rounding would be scrolled.
+// A picture slightly higher than its view by rounding would be scrolled.
 const measured = ({ clientWidth, clientHeight }) => ({ width: clientWidth, height: Math.max(0, clientHeight - 2) });
 
 export const spaceOf = name => {
@@ -17,7 +17,7 @@ export const spaceOf = name => {
   return rooms.get(name);
 };
 
-// The size of a diagram with the minutes that it shows, the same value where it is the same.
+// The size of a diagram with the minutes that it shows, the same value if unchanged.
 export const sizeNow = name => {
   const { width, height } = spaceOf(name), minutes = minutesOfDiagram(), known = JSON.stringify([width, height, minutes]);
   if (!sizes.has(name) || sizes.get(name).known !== known) sizes.set(name, { known, size: { width: width || 880, height, minutes } });

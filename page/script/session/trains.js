@@ -4,7 +4,7 @@ import { display } from './display.js';
 import { clock, labelOf } from './names.js';
 import { minutesHad } from '../base/viewing.js';
 
-// The style has so many colors of lines, other ones where it is dark.
+// The style has this many colors of lines, others in dark mode.
 const COLORS = 10;
 
 const colorOf = place => `var(--line-${place % COLORS})`;
@@ -27,7 +27,7 @@ export const trainsOf = network => {
   }
   const labelled = network.events.filter(event => labelOf(event).line && labelOf(event).station);
   const begun = new Set(), trains = [];
-  // A ring has no first event; it is begun at its least one, once all trains with a first event are known.
+  // A circular train has no first event; it begins at its least one, once all trains with a first event are known.
   for (const event of [...labelled.filter(each => !arrived.has(each)), ...labelled]) {
     if (begun.has(event)) continue;
     const train = trainFrom(event, following);
@@ -60,7 +60,7 @@ const withStops = train => {
   return { ...train, stops, stations: stops.map(stop => stop.station) };
 };
 
-// What tells trains apart that begin alike, by their events: the minute at which each begins, or its place among them.
+// The distinction of trains with the same beginning, by their events: the minute at which each begins, or its place among them.
 export const twinsOf = ({ trains, times }) => {
   const alike = new Map(), texts = new Map();
   for (const train of trains) {
@@ -78,7 +78,7 @@ export const twinsOf = ({ trains, times }) => {
 export const pieceOf = (train, start, end) =>
   withStops({ ...train, events: train.events.slice(start, end), steps: train.steps.slice(start, end - 1) });
 
-// The pieces of a train that some of its events make, each as a train.
+// The pieces of a train that some of its events form, each as a train.
 export const piecesWhere = (train, isOfPart) => {
   const pieces = [];
   train.events.forEach((event, place) => {
@@ -102,7 +102,7 @@ const stopsOf = train => {
   return stops;
 };
 
-// The lines in the order of their names, in which a number counts as a number; each with its stations in their order.
+// The lines in the order of their names, with numbers in numeric order; each with its stations in their order.
 export const linesOf = trains => {
   const lines = new Map();
   for (const train of trains) {
@@ -114,7 +114,7 @@ export const linesOf = trains => {
   return sorted;
 };
 
-// The stations of the longest train, with those of the others put in where they follow one that is known.
+// The stations of the longest train, with those of the others inserted after a known one.
 const stationsOf = trains => {
   const longest = trains.reduce((best, train) => train.stations.length > best.stations.length ? train : best);
   const order = [...new Set(longest.stations)];
@@ -134,7 +134,7 @@ const stationsOf = trains => {
 export const isForward = (line, train) =>
   line.stations.indexOf(train.stations[0]) <= line.stations.indexOf(train.stations[train.stations.length - 1]);
 
-// The minute of each event of a train, counted on from the first beyond the period; null where a time is missing.
+// The minute of each event of a train, continued beyond the period; null if a time is missing.
 const minutesOf = (view, train) => {
   if (!view.tensions || !train.events.every(event => view.times.has(event))) return null;
   const minutes = [view.times.get(train.events[0])];
@@ -142,14 +142,14 @@ const minutesOf = (view, train) => {
   return minutes;
 };
 
-// The pieces of a train that have times, each with its minutes: the train itself where all are there.
+// The pieces of a train that have times, each with its minutes: the train itself if none is missing.
 export const timedPieces = (view, train) => {
   const minutes = minutesOf(view, train);
   if (minutes) return [{ train, minutes }];
   return view.tensions ? piecesWhere(train, event => view.times.has(event)).map(piece => ({ train: piece, minutes: minutesOf(view, piece) })) : [];
 };
 
-// The first events of those that stay where others are mended.
+// The first events of the trains that stay while others are mended.
 const staying = new Set();
 
 const firstOf = event => {

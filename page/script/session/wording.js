@@ -1,4 +1,4 @@
-// What edits do, and why the program refuses one, in a planner's words: a command stands in Steps alone.
+// The effect of edits, and the program's reasons for a refusal, in a planner's words: commands are only in Steps.
 
 import { within } from './display.js';
 import { readEdit } from '../base/edits.js';
@@ -8,7 +8,7 @@ import { wordsOf } from '../base/times.js';
 
 const endsText = ({ first, last }) => `from ${eventName(first)} to ${eventName(last)}`;
 
-// How an activity is another one.
+// The change of an activity.
 export const changesOf = (old, now) => [
   old.first === now.first && old.last === now.last ? '' : `${endsText(now)}, was ${endsText(old)}`,
   old.lower === now.lower && old.upper === now.upper ? ''
@@ -23,7 +23,7 @@ const changed = ([number], before, after) => {
   return `${nameIn(before, number)}: ${(old && now && changesOf(old, now)) || 'as before'}`;
 };
 
-// Of each kind of edit what it does, by its numbers and the network before and after it.
+// For each kind of edit its effect, by its numbers and the network before and after it.
 const DONE = {
   addEvent: ([event]) => `${eventName(event)} added`,
   dropEvent: ([event]) => `${eventName(event)} dropped`,
@@ -39,11 +39,11 @@ const DONE = {
 
 export const countText = count => `${count} change${count === 1 ? '' : 's'}`;
 
-// What some edits do together.
+// The effect of some edits together.
 export const editsText = ([first, ...others], before, after = before) => !first ? 'other names'
   : `${DONE[first.kind](first.numbers, before, after)}${others.length ? `, and ${countText(others.length).replace(' ', ' more ')}` : ''}`;
 
-// Why the program refuses an edit; what stands alone says of what it is.
+// Why the program refuses an edit; a text that is complete alone.
 const REASONS = [
   [/^refused 3 /, () => 'activities are still at it'],
   [/^refused 4 time ([0-9]+)/, ([, time]) => `minute ${time} is beyond the period`],
@@ -60,7 +60,7 @@ const REASONS = [
 
 const OF_EVENTS = ['addEvent', 'dropEvent', 'fix', 'window', 'unfix', 'time', 'untime'];
 
-// What an edit is of; '' where its line has no such number.
+// The object of an edit; '' if its line has no such number.
 const subjectOf = ({ kind, numbers: [number, first, last] }, network) => {
   if (!kind || !Number.isInteger(number)) return '';
   if (kind === 'addActivity') return endsText({ first, last });
@@ -72,7 +72,7 @@ export const refusalText = (edit, reply, network) => {
   return reason ? [subjectOf(edit, network), reason].filter(Boolean).join(': ') : tell(ALONE) || reply;
 };
 
-// The fault of a line that was refused where a network with these labels was opened, in words; any other fault as it is.
+// The fault of a line that was refused when a network with these labels was opened, in words; any other fault unchanged.
 export const faultInWords = (fault, period, labels) => {
   const { refused } = fault, network = refused?.network || { period, activities: new Map() };
   return refused ? new RunFault(within({ network }, () => refusalText(readEdit(refused.line), refused.reply, network), labels)) : fault;

@@ -1,7 +1,7 @@
 'use strict';
 
-// Draws what a report tells by the scripts of the page, under Node: `node drawing.js PAGE netgraph|report`, with the content on
-// standard input. The page's scripts make elements of a document; here is one that is as much of it as drawing takes.
+// Draws a report with the scripts of the page, under Node: `node drawing.js PAGE netgraph|report`, with the content on standard
+// input. The page's scripts create elements of a document; the one here implements as much of it as drawing needs.
 
 const fs = require('fs'), vm = require('vm');
 
