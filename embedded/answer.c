@@ -28,7 +28,7 @@ static struct bytes room(size_t length) {
     return bytes;
 }
 
-/* The bytes of a stream to its end, to a failure, or to more than are wanted; which of the first two it was is told by ferror. */
+/* The bytes of a stream up to its end, a failure, or the limit; ferror distinguishes the first two. */
 static struct bytes whole(FILE *file, size_t most) {
     struct bytes bytes = room(0);
     static uint8_t piece[65536];
@@ -61,7 +61,7 @@ static struct bytes file_at(const char *path, const char *name) {
     return bytes;
 }
 
-/* The commands; where reading fails, the whole lines before that. */
+/* The commands; if reading fails, the complete lines before that. */
 static struct bytes commands_of(FILE *file) {
     struct bytes commands = whole(file, SIZE_MAX - 1);
     if (ferror(file)) {
@@ -70,7 +70,7 @@ static struct bytes commands_of(FILE *file) {
     return commands;
 }
 
-/* The period of a word of digits, with a + before them or not. */
+/* The period of a word of digits, optionally after a +. */
 static uint16_t period_of(const char *word) {
     const char *digits = word + (*word == '+');
     unsigned long period = 0;

@@ -13,7 +13,7 @@ import sys
 
 
 class Told(ctypes.Structure):
-    """What a call tells."""
+    """The report of a call."""
 
     _fields_ = [
         ("length", ctypes.c_uint64),
@@ -43,7 +43,7 @@ def loaded(path):
 
 
 def answer(call, period, activities=b"", fixed=b"", times=b"", commands=b""):
-    """The replies, and what is told of how the run ended."""
+    """The replies, and the report on how the run ended."""
     given = [part for text in (activities, fixed, times, commands) for part in (text, len(text))]
     told, room = Told(), 1 << 16
     while True:
@@ -55,7 +55,7 @@ def answer(call, period, activities=b"", fixed=b"", times=b"", commands=b""):
 
 
 def fault_of(told):
-    """The text of a fault; None where there is none."""
+    """The text of a fault; None if there is none."""
     if told.status == 0:
         return None
     if told.status <= len(FILES):
@@ -65,7 +65,7 @@ def fault_of(told):
 
 
 class Refused(Exception):
-    """Why the program would not take the files or the words, and its exit status."""
+    """Why the program would refuse the files or the words, and its exit status."""
 
     def __init__(self, status, text):
         super().__init__(text)
@@ -95,7 +95,7 @@ def period_of(word):
 
 
 def whole_lines(descriptor):
-    """The bytes of a descriptor, and whether it came to its end; where it did not, the whole lines before that."""
+    """The bytes of a descriptor, and whether it reached its end; if not, the complete lines before that."""
     pieces = []
     try:
         while not pieces or pieces[-1]:
@@ -117,7 +117,7 @@ def write(descriptor, data):
 
 
 def run(library, period, *paths):
-    """Answers what standard input has. Raises Refused."""
+    """Answers standard input. Raises Refused."""
     period = period_of(period)
     files = [content(path, name) for path, name in zip(paths, FILES)]
     commands, is_whole = whole_lines(0)

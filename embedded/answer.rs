@@ -30,7 +30,7 @@ extern "C" {
     );
 }
 
-/// The bytes of files, and commands. One that is not given has no bytes.
+/// The bytes of files, and commands. A missing one has no bytes.
 struct Asked {
     period: u16,
     activities: Vec<u8>,
@@ -39,7 +39,7 @@ struct Asked {
     commands: Vec<u8>,
 }
 
-/// One call; how many bytes of the room are replies is told.
+/// One call; the report has the length of the replies.
 fn call(asked: &Asked, out: &mut [u8]) -> Told {
     let Asked {
         period,
@@ -49,7 +49,7 @@ fn call(asked: &Asked, out: &mut [u8]) -> Told {
         commands,
     } = asked;
     let mut told = Told::default();
-    // Pointers of vectors and slices are never null, and none of these meet.
+    // Pointers of vectors and slices are never null, and none of these overlap.
     unsafe {
         pesp_answer(
             *period,
@@ -83,7 +83,7 @@ fn answer(asked: &Asked) -> (Vec<u8>, Told) {
     }
 }
 
-/// The text of a fault, where there is one.
+/// The text of a fault, if there is one.
 fn fault_of(told: &Told) -> Option<String> {
     let Told { place, field, .. } = told;
     let reason = match told.reason {
@@ -113,7 +113,7 @@ fn fault_of(told: &Told) -> Option<String> {
     })
 }
 
-/// Why the program would not go on, and its exit status.
+/// Why the program would end, and its exit status.
 struct Refused(u8, String);
 
 fn failed(why: &str) -> Refused {
@@ -134,7 +134,7 @@ fn file_at(path: &str, name: &str) -> Result<Vec<u8>, Refused> {
     Ok(bytes)
 }
 
-/// The commands, and whether they came to their end; where they did not, the whole lines before that.
+/// The commands, and whether they reached their end; if not, the complete lines before that.
 fn commands_of(mut input: impl Read) -> (Vec<u8>, bool) {
     let mut commands = Vec::new();
     if input.read_to_end(&mut commands).is_ok() {

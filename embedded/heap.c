@@ -5,7 +5,7 @@
 #include <stdint.h>
 #include <stdlib.h>
 
-/* Whether there was memory, and where: two registers. Where there was none, the address is of no use, and is not null. */
+/* Whether there was memory, and its address: two registers. Without memory the address is unused, and not null. */
 struct tried {
     uint64_t is_there;
     void *block;

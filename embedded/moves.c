@@ -48,7 +48,7 @@ static uint64_t cost_of(struct pesp_session *session) {
     return cost;
 }
 
-/* What the cost would change by. */
+/* The change of the cost. */
 static int64_t change_of(struct pesp_session *session, unsigned event, unsigned time) {
     int64_t change = 0;
     struct pesp_told told;

@@ -30,7 +30,7 @@ int main(int count, char **words) {
 
     static uint16_t times[20000];
     clock_t begun = clock();
-    /* A call goes on where the one before it stopped; one that begins anew has twice the nodes. */
+    /* A call resumes the one before it; one that restarts has twice the nodes. */
     for (uint64_t nodes = NODES; told.status == PESP_DONE && found.state < PESP_OPTIMUM && clock() - begun < CLOCKS_PER_SEC;) {
         pesp_search(&session, nodes, times, sizeof times / sizeof *times, &found, &told);
         if (!found.goes_on) nodes *= 2;

@@ -1,9 +1,9 @@
 """The statements that the crates prove, and which of them are proved in more than one file.
 
-A statement is what a file of crates/NAME/proofs says of a name before the equations that prove it. Two are the same
-where they differ in the names of bound variables, in spaces or in how variables are grouped alone. One inside
-`module _ (..)` holds for all values of the parameters that it cites, where what other parameters say of these holds: it
-is compared with all of them before it, as it reads outside.
+A statement is the type that a file of crates/NAME/proofs gives to a name before the equations that prove it. Two are
+the same if they differ only in the names of bound variables, in spaces or in how variables are grouped. One inside
+`module _ (..)` holds for all values of the parameters that it cites, under what other parameters say about these: it is
+compared with all of them before it, as it reads outside.
 """
 
 import pathlib
@@ -16,14 +16,14 @@ NAME = r"(?P<name>[^\s(){}\[\],.;:=]+)"
 STATED = re.compile(rf"(?P<indent> *)(?:pub )?{NAME} : (?P<type>.*)")
 DEFINED = re.compile(rf"(?:abbrev )?(?:pub )?(?:(?:record|data|ruleset) )?{NAME}(?= |$)")
 USED = re.compile(r"(?:pub )?use (?P<path>[^\s{]+?)(?:\.\{(?P<names>.*)\}| as (?P<other>\S+))?")
-# What values have, and not proofs: a name of such a type is a definition.
+# The types of values, not of proofs: a name of such a type is a definition.
 VALUES = {"Type", "ℕ", "ℤ", "Bool", "List", "Option"}
-# What no file imports: words of the language, and names that are built in.
+# Names that no file imports: words of the language, and built-in names.
 BUILT_IN = set("→ × = : | ↦ λ let in as elim record Type Unit tt absurd _ ¬ ( ) { } [ ] , . ;".split())
 
 
 class Statement(NamedTuple):
-    """A statement, in words that do not depend on the names of its variables, and where it stands."""
+    """A statement, in words that do not depend on the names of its variables, and its place."""
 
     words: str
     name: str
@@ -32,7 +32,7 @@ class Statement(NamedTuple):
 
 
 class Group(NamedTuple):
-    """What stands between two brackets."""
+    """The tokens between two brackets."""
 
     bracket: str
     items: Sequence[Union[str, "Group"]]
@@ -42,7 +42,7 @@ Items = Sequence[Union[str, Group]]
 
 
 class Parameter(NamedTuple):
-    """A parameter of a module, its type, and the bracket that it stands in."""
+    """A parameter of a module, its type, and its bracket."""
 
     name: str
     bracket: str
@@ -50,19 +50,19 @@ class Parameter(NamedTuple):
 
 
 class Module(NamedTuple):
-    """A module with parameters, how far it is indented, and the names that it has defined so far."""
+    """A module with parameters, its indentation, and the names that it has defined so far."""
 
     indent: int
     parameters: List[Parameter]
     members: Set[str]
 
 
-# The parameters that members of modules are given outside.
+# The parameters that members of modules have outside.
 Given = Dict[str, List[str]]
 
 
 def parsed(text: str) -> Items:
-    """The tokens of a text, those between brackets in groups."""
+    """The tokens of a text, with those between brackets in groups."""
     open_groups: List[Tuple[str, List[Union[str, Group]]]] = [("", [])]
     for token in TOKEN.findall(text):
         if token in PAIRS:
@@ -85,9 +85,9 @@ def binder(item: Union[str, Group]) -> Optional[Tuple[List[str], Items]]:
 
 
 class Writer:
-    """Writes statements with numbers for their variables, and keeps the names that they leave free.
+    """Writes statements with numbers for their variables, and collects their free names.
 
-    A member of a module is written with the parameters that it is given outside.
+    A member of a module is written with the parameters that it has outside.
     """
 
     def __init__(self, given: Given) -> None:
@@ -115,14 +115,14 @@ class Writer:
         return token
 
     def written(self, items: Items, scope: Dict[str, str]) -> str:
-        """The items as words; what they bind is added to the scope."""
+        """The items as words; their bound variables are added to the scope."""
         words: List[str] = []
         after_binder = False
         before = ""
         for item in items:
             found = binder(item)
             if isinstance(item, Group) and found:
-                # `(a : A) → (b : B) →` and `(a : A) (b : B) →` say the same.
+                # `(a : A) → (b : B) →` and `(a : A) (b : B) →` mean the same.
                 if after_binder and words[-1] == "→":
                     words.pop()
                 words.append(self.bound(item.bracket, *found, scope))
@@ -144,7 +144,7 @@ def free_names(items: Items, given: Given) -> Set[str]:
 
 
 def given_outside(modules: Sequence[Module]) -> Given:
-    """The parameters that are given, outside, to what the modules around a place have defined."""
+    """The parameters that definitions in the modules around a place have outside."""
     given: Given = {}
     names: List[str] = []
     for module in modules:
@@ -154,7 +154,7 @@ def given_outside(modules: Sequence[Module]) -> Given:
 
 
 def together(cited: Set[str], parameters: Sequence[Parameter], given: Given) -> List[Parameter]:
-    """The parameters that are cited, those that their types cite, and those that say something of any of these."""
+    """The cited parameters, those that their types cite, and those whose types cite any of these."""
     own = {each.name for each in parameters}
     of_types = [free_names(each.type, given) & own for each in parameters]
     names = cited & own
@@ -167,7 +167,7 @@ def together(cited: Set[str], parameters: Sequence[Parameter], given: Given) -> 
 
 
 def closed(items: Items, modules: Sequence[Module]) -> Items:
-    """The statement for all values of the parameters of its modules that it hangs together with."""
+    """The statement for all values of the parameters of its modules on which it depends."""
     given = given_outside(modules)
     parameters = together(free_names(items, given), [each for module in modules for each in module.parameters], given)
     groups = [Group(each.bracket, [each.name, ":", *each.type]) for each in parameters]
@@ -184,12 +184,12 @@ def parameters_of(text: str) -> List[Parameter]:
 
 
 def parts(name: str) -> List[str]:
-    """A name, or the words that an operator is written with."""
+    """A name, or the words of an operator."""
     return [part for part in name.split("◌") if part]
 
 
 def known_names(lines: Sequence[str]) -> Set[str]:
-    """What a file imports, and what it defines outside of all modules."""
+    """The imports of a file, and its definitions outside of all modules."""
     names = set(BUILT_IN)
     for line in lines:
         used, defined = USED.fullmatch(line), DEFINED.match(line)
@@ -208,7 +208,7 @@ def indent_of(line: str) -> int:
 
 
 def with_its_end(lines: Sequence[str], at: int) -> Tuple[str, int]:
-    """The line at a place with those that go on with it, indented further, and the place after them."""
+    """The line at a place with its continuations, indented further, and the place after them."""
     end = at + 1
     while end < len(lines) and lines[end].strip() and indent_of(lines[end]) > indent_of(lines[at]):
         end += 1
@@ -216,7 +216,7 @@ def with_its_end(lines: Sequence[str], at: int) -> Tuple[str, int]:
 
 
 def module_at(lines: Sequence[str], at: int) -> Module:
-    """The module that begins at a line: its parameters stand before the word `where`."""
+    """The module that begins at a line: its parameters precede the word `where`."""
     end = at
     while not lines[end].endswith(" where"):
         end += 1
@@ -224,7 +224,7 @@ def module_at(lines: Sequence[str], at: int) -> Module:
 
 
 def with_modules(lines: Sequence[str]) -> Iterator[Tuple[int, List[Module]]]:
-    """Each line's place, with the modules that it stands in, and what these have defined before it."""
+    """Each line's place, with the modules around it, and what these have defined before it."""
     modules: List[Module] = []
     for at, line in enumerate(lines):
         while line.strip() and modules and indent_of(line) <= modules[-1].indent:
@@ -238,7 +238,7 @@ def with_modules(lines: Sequence[str]) -> Iterator[Tuple[int, List[Module]]]:
 
 
 def is_proved(lines: Sequence[str], at: int, indent: str, name: str) -> bool:
-    """Whether an equation of the name stands at a line, or after what is unfolded for it."""
+    """Whether an equation of the name is at a line, or after its unfolding."""
     if at < len(lines) and lines[at].startswith(f"{indent}unfolding "):
         at += 1
     return at < len(lines) and lines[at].startswith(f"{indent}{name} ")
@@ -247,7 +247,7 @@ def is_proved(lines: Sequence[str], at: int, indent: str, name: str) -> bool:
 def stated(lines: Sequence[str]) -> Iterator[Tuple[int, str, str]]:
     """Each statement of a file that equations follow: its place, its name, and its text.
 
-    Answers are left out: their types are those of goals, which stand once by themselves.
+    Answers are left out: their types are those of goals, which exist once anyway.
     """
     for at, line in enumerate(lines):
         match = STATED.fullmatch(line)
@@ -265,10 +265,10 @@ def is_of_values(items: Items) -> bool:
 
 
 def statements_of(path: pathlib.Path) -> Iterator[Statement]:
-    """The statements of a file that say something by themselves.
+    """The statements of a file that are complete by themselves.
 
-    One that cites a name which is neither bound in it, nor imported, nor defined outside of all modules depends on what
-    stands around it, and is left out.
+    One that cites a name which is neither bound in it, nor imported, nor defined outside of all modules depends on its
+    surroundings, and is left out.
     """
     lines = path.read_text().splitlines()
     known = known_names(lines)
@@ -288,7 +288,7 @@ def statements(top: pathlib.Path) -> List[Statement]:
 
 
 def proved_twice(found: Sequence[Statement]) -> List[List[Statement]]:
-    """The statements that stand in more than one file, each with all its places."""
+    """The statements in more than one file, each with all its places."""
     places: Dict[str, List[Statement]] = {}
     for statement in found:
         places.setdefault(statement.words, []).append(statement)

@@ -5,7 +5,7 @@ import re
 from typing import Dict, List, NamedTuple
 
 ROW = re.compile(r"^- (?P<words>`[a-z ]+`(?:, `[a-z ]+`)*): (?P<better>[a-z, ]+)$", re.M)
-# What is no prose: blocks and pieces of code, and the targets of links.
+# Text that is not prose: blocks and pieces of code, and the targets of links.
 BLOCK = re.compile(r"^```.*?^```$", re.M | re.S)
 PIECE = re.compile(r"`[^`]*`|\]\([^)]*\)")
 
@@ -36,7 +36,7 @@ def uses(text: str, words: Dict[str, str]) -> List[Use]:
 
 
 def documents(top: pathlib.Path) -> List[pathlib.Path]:
-    """Each document of a tree and its manual pages, but for what a build leaves."""
+    """Each document of a tree and its manual pages, except those of a build."""
     built = {"out", ".git", "build"}
     found = [*top.rglob("*.md"), *top.glob("man/*.1")]
     return sorted(path for path in found if not built & set(path.relative_to(top).parts))

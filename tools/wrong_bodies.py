@@ -1,7 +1,7 @@
 """The two shelves of wrong bodies of each crate, and how those of the second one are tried.
 
-The gate tries `must-fail/` itself. Those of `wrong-bodies/` are tried in its place on a copy of the tree, as the gate tries
-its own, by `rt must-fail NAME`. It tries a crate that is not proved too, and so `rt check` goes before it.
+The gate tries `must-fail/` itself. On a copy of the tree `wrong-bodies/` replaces it, and is tried like the gate's own, by
+`rt must-fail NAME`. That also accepts a crate that is not proved, so `rt check` comes first.
 """
 
 import contextlib
@@ -12,15 +12,15 @@ import subprocess
 from typing import Dict, List, NamedTuple, Sequence, Set, Tuple
 
 FIRST, SECOND = "must-fail", "wrong-bodies"
-# The toolchain's line on an edit; what is in brackets after the first words takes from what a refusal shows.
+# The toolchain's line on an edit; a remark in brackets after the first words weakens what a refusal shows.
 LINE = re.compile(r"(?:rt: )?must-fail (?P<crate>\w+)/(?P<name>[\w.-]+\.edit): (?P<told>.*)")
 REFUSED = "refused, as it must be"
-# What of a crate's `out` a check goes on from: what it has proved, and the libraries that it stands on.
+# The parts of a crate's `out` from which a check resumes: its kept proofs, and the libraries that it uses.
 KEPT = ("incremental", "rlib")
 
 
 class Missing(Exception):
-    """A name that is no crate with a second shelf."""
+    """A name that is not a crate with a second shelf."""
 
 
 class Unread(Exception):
@@ -35,7 +35,7 @@ def edits(top: pathlib.Path, shelf: str, crate: str = "*") -> List[pathlib.Path]
 def applied(edit: pathlib.Path) -> Dict[pathlib.Path, str]:
     """The texts of the files that an edit changes, by their paths, with its changes.
 
-    Raises Unread where it names no file, where a text that it changes does not stand there once, or where it changes
+    Raises Unread if it names no file, if a text that it changes does not occur exactly once, or if it changes
     nothing.
     """
     texts: Dict[pathlib.Path, str] = {}
@@ -65,9 +65,9 @@ def breaks_of(edit: pathlib.Path) -> str:
 
 
 def crates_of(top: pathlib.Path, names: Sequence[str]) -> List[str]:
-    """The crates that are tried: those named, or all with a second shelf.
+    """The crates to try: those named, or all with a second shelf.
 
-    Raises Missing where a name is no crate with one.
+    Raises Missing if a name is not such a crate.
     """
     found = list(dict.fromkeys(path.parts[-3] for path in edits(top, SECOND)))
     for name in names:
@@ -77,7 +77,7 @@ def crates_of(top: pathlib.Path, names: Sequence[str]) -> List[str]:
 
 
 def copy_tree(top: pathlib.Path, to: pathlib.Path, crate: str) -> None:
-    """Copies what a check of the crate reads and what earlier ones kept, with its second shelf where the first is looked for."""
+    """Copies what a check of the crate reads and what earlier ones kept, with its second shelf in the place of the first."""
 
     def not_read(folder: str, names: List[str]) -> Set[str]:
         return {*names} - {*KEPT} if pathlib.Path(folder).name == "out" else {*names} & {FIRST, SECOND}
@@ -89,13 +89,13 @@ def copy_tree(top: pathlib.Path, to: pathlib.Path, crate: str) -> None:
 
 
 def called(words: Sequence[str], folder: pathlib.Path) -> Tuple[int, List[str]]:
-    """The status of a command of the toolchain, and the lines that it wrote."""
+    """The status of a command of the toolchain, and its lines."""
     done = subprocess.run(words, cwd=folder, stdin=subprocess.DEVNULL, stdout=subprocess.PIPE, stderr=subprocess.STDOUT)
     return done.returncode, done.stdout.decode(errors="replace").splitlines()
 
 
 def told_of(lines: Sequence[str]) -> Dict[str, str]:
-    """What the toolchain said of each edit, by its file's name; further lines are of the edit before them."""
+    """The toolchain's text on each edit, by its file's name; further lines belong to the edit before them."""
     told: Dict[str, str] = {}
     name = ""
     for line in lines:
@@ -111,9 +111,9 @@ def told_of(lines: Sequence[str]) -> Dict[str, str]:
 
 
 def try_crate(top: pathlib.Path, room: pathlib.Path, crate: str) -> Dict[str, str]:
-    """What is told of each edit of the crate's second shelf, by its file's name.
+    """The result of each edit of the crate's second shelf, by its file's name.
 
-    A crate that is not proved would refuse whatever is tried, so none of its edits is.
+    A crate that is not proved would refuse every edit, so none of its edits is tried.
     """
     copy_tree(top, room, crate)
     status, lines = called(["rt", "check"], room / "crates" / crate)
@@ -133,17 +133,17 @@ def is_plain(told: str) -> bool:
     return is_refused(told) and not told[len(REFUSED) :].lstrip().startswith("(")
 
 
-# Where a refusal comes from; what is through is not refused, or not tried.
+# The cause of a refusal; `through` is not refused, or not tried.
 KINDS = CLAUSE, CALL, PROOF, OTHER, THROUGH = "clause", "call", "proof", "other", "through"
 # A line on an edit, as the toolchain or tools/try_wrong_bodies prints it.
 TOLD = re.compile(r"(?:(?:rt: )?must-fail )?(?P<crate>\w+)/(?P<name>[\w.-]+\.edit): (?P<told>.*)")
-# What the prover says of a goal that its search does not prove, and which of these goals are of the body's own contract.
+# The prover's text on a goal that its search does not prove, and which of these goals are of the body's own contract.
 UNPROVED_GOAL = re.compile(r"it is not proved that (?P<goal>.*)")
 OWN = re.compile(r"what the function ensures|the invariant|the `invariant`|the loop ends|the struct's ghost fields|the `&mut`")
 NO_LOAN = re.compile(r"no `follows`|it has an `ensures\*`")
-# An error in a proof, with the goal that it answers and what is said of it.
+# An error in a proof, with the goal that it answers and its text.
 IN_A_PROOF = re.compile(r"(?:note: )?(?:\./)?(?P<path>proofs/\S+\.antt):\d+:\d+: error: `(?P<goal>[^`]+)`: (?P<said>.*)")
-# What is said where a tactic was asked for a step that it does not prove, so that the text fits and the step fails.
+# The text if a tactic does not prove a step, so that the proof's text fits and the step fails.
 UNPROVED_STEP = re.compile(r"give the call less to do|list the missing equation|`?(search|grind|omega|cc|simp)`?:")
 # The name of a goal, in an error in a proof or after what is not proved of the code.
 GOAL = re.compile(r"error: `([^`]+)`|\(`([^`]+)`\)")
@@ -152,7 +152,7 @@ TACTIC = re.compile(r"(search|grind|omega|simp|cc)\b")
 
 
 class Refusal(NamedTuple):
-    """What a log says of an edit: where the refusal comes from, and the words that tell it."""
+    """A log's text on an edit: the cause of the refusal, and the words that show it."""
 
     crate: str
     name: str
@@ -160,7 +160,7 @@ class Refusal(NamedTuple):
     where: str
 
     def goal(self) -> str:
-        """The goal that is not proved, as the prover names it, or nothing where the words do not tell it."""
+        """The goal that is not proved, as the prover names it, or nothing if the words do not name it."""
         found = GOAL.search(self.where)
         return found[1] or found[2] if found else ""
 
@@ -170,7 +170,7 @@ class Refusal(NamedTuple):
 
 
 def refusals(top: pathlib.Path, lines: Sequence[str]) -> List[Refusal]:
-    """What the lines of a log say of edits, each once, by its last line, in the order of the log."""
+    """The results of edits in the lines of a log, each once, by its last line, in the order of the log."""
     found: Dict[Tuple[str, str], Refusal] = {}
     for line in lines:
         match = TOLD.fullmatch(line)
@@ -181,7 +181,7 @@ def refusals(top: pathlib.Path, lines: Sequence[str]) -> List[Refusal]:
 
 
 def sorted_out(crate: pathlib.Path, name: str, told: str) -> Tuple[str, str]:
-    """The kind of what is told of an edit of the crate, and the words that tell it."""
+    """The kind of the text on an edit of the crate, and the words that show it."""
     if not is_refused(told):
         return THROUGH, told
     where = told[len(REFUSED) :].strip(" :")
@@ -201,7 +201,7 @@ def sorted_out(crate: pathlib.Path, name: str, told: str) -> Tuple[str, str]:
 
 
 def text_with(crate: pathlib.Path, name: str, path: str) -> str:
-    """The text of a file of the crate, with the edit where that changes it, or nothing where there is none."""
+    """The text of a file of the crate, with the edit if that changes it, or nothing if there is none."""
     for edit in [crate / shelf / name for shelf in (FIRST, SECOND)]:
         if edit.is_file():
             with contextlib.suppress(Unread):
@@ -212,7 +212,7 @@ def text_with(crate: pathlib.Path, name: str, path: str) -> str:
 
 
 def answer_of(text: str, goal: str) -> str:
-    """What stands after the equation's sign in the answer to a goal of a proof, or nothing where there is none."""
+    """The text after the equation's sign in the answer to a goal of a proof, or nothing if there is none."""
     found = re.search(rf"^{re.escape(goal)}(?: [^=\n]*)? =\s*(.*)", text, flags=re.M)
     return found[1] if found else ""
 

@@ -32,7 +32,7 @@ def read_places(path: Union[str, "os.PathLike[str]"]) -> Dict[str, Place]:
 
     Raises:
         OSError: the file cannot be read.
-        FileFault: a row has not three fields, or a place is no number.
+        FileFault: a row has not three fields, or a coordinate is not a number.
     """
     places: Dict[str, Place] = {}
     for record, fields in records(path, "utf-8", has_names=True):

@@ -127,7 +127,7 @@ class Questions(Tabled):
         and iteration yields it after each step (see Nearest); `take` makes it the working timetable. `seconds`, `nodes` and
         `watch` are those of `search`.
 
-        Raises WrongWords for what is not in the network or cannot be, and for too large a network, and ValueError for limits.
+        Raises WrongWords for missing events and impossible values, and for too large a network, and ValueError for limits.
         """
         check_limits(seconds, index(nodes))
         wish = Wish.of(self.network, self.times if times is None else times, held or {}, most, weights or {})

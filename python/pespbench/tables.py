@@ -53,7 +53,7 @@ def network_of(given: Given, period: Optional[int]) -> Tuple[Network, Labels]:
     """The given network, with the kinds of its activities if rows have them; the default period is 60.
 
     A row is an Activity, six numbers or more, or has columns by their names, as a mapping or a row of `rows` is. Raises
-    TypeError for a value that is no row or no whole number, KeyError for a missing column, and ValueError for a repeated activity.
+    TypeError for an invalid row or a value that is not a whole number, KeyError for a missing column, and ValueError for a repeated activity.
     """
     if isinstance(given, Network):
         return Network(given.period if period is None else index(period), dict(given.windows), dict(given.activities)), Labels()

@@ -2,7 +2,7 @@
 
 usage: cd python && python3 -m tests [MODULE ..]
 
-Without modules all are run. The exit status is 1 where a test failed.
+Without modules all are run. The exit status is 1 if a test failed.
 """
 
 from __future__ import annotations
@@ -15,7 +15,7 @@ from typing import Any, List
 
 
 class Lines(unittest.TestResult):
-    """Writes what became of each test, as soon as it is known."""
+    """Writes the result of each test, as soon as it is known."""
 
     def startTest(self, test: unittest.TestCase) -> None:
         super().startTest(test)
@@ -51,7 +51,7 @@ class Lines(unittest.TestResult):
 
 
 def main(modules: List[str]) -> int:
-    """Runs the tests of modules, or all, and gives the exit status."""
+    """Runs the tests of modules, or all, and returns the exit status."""
     here = Path(__file__).resolve().parent
     names = modules or [f"tests.{path.stem}" for path in sorted(here.glob("test_*.py"))]
     result = Lines()

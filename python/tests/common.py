@@ -1,4 +1,4 @@
-"""What the tests share: the program, folders, stand-ins, and networks that are drawn the same in each run."""
+"""Common parts of the tests: the program, folders, stand-ins, and networks that are the same in each run."""
 
 from __future__ import annotations
 
@@ -20,22 +20,22 @@ from pespbench.__main__ import main
 TOP = Path(__file__).resolve().parents[2]
 EXAMPLES = TOP / "examples"
 PROGRAM = os.path.abspath(os.environ.get("PESPBENCH") or TOP / "crates/pespbench/out/pespbench")
-# The shared library in process, where there is one: tools/test_program makes it of what tools/library has built.
+# The shared library in process, if there is one: tools/test_program makes it from that of tools/library.
 LIBRARY = os.path.abspath(os.environ["PESPBENCH_LIB"]) if os.environ.get("PESPBENCH_LIB") else ""
-# What opens a bench over each engine.
+# The arguments that open a bench over each engine.
 OVER_PROGRAM: Dict[str, Any] = {"program": PROGRAM}
 OVER_LIBRARY: Dict[str, Any] = {"engine": "library", "library": LIBRARY}
 needs_library = unittest.skipUnless(LIBRARY, "there is no library in process; PESPBENCH_LIB names one")
-# The most seconds for which something is waited that most often is there at once: a machine may be slow, or stand still.
+# The greatest seconds to wait for something that usually happens at once: a machine may be slow, or stand still.
 LONG = 100
-# Seconds that are enough on a slow machine too, and of which those do not end who sleep, or search, for minutes.
+# Seconds that are enough on a slow machine too, but not for a program that sleeps, or searches, for minutes.
 SOON = 30
-# Over a program that is so many times slower, as tools/test_program says it, so many times fewer are drawn where many are.
+# With a program that is slower by a factor, which tools/test_program passes, random cases are fewer by the same.
 PATIENCE = int(os.environ.get("PESPBENCH_PATIENCE") or 1)
 
 
 class Whole:
-    """A whole number that is no int, as those of other packages are."""
+    """An integer that is not an int, like those of other packages."""
 
     def __init__(self, number: int) -> None:
         self.number = number
@@ -51,7 +51,7 @@ class Whole:
 
 
 class Case(unittest.TestCase):
-    """A test with a folder of its own; `how` has what opens a bench."""
+    """A test with a folder of its own; `how` has the arguments that open a bench."""
 
     how = OVER_PROGRAM
 
@@ -66,12 +66,12 @@ class Case(unittest.TestCase):
         return bench
 
     def drawn(self, seed: int, events: int, activities: int, period: int = 60, room: int = 12) -> Bench:
-        """The drawn network."""
+        """The random network."""
         script = "\n".join(drawn_script(seed, events, activities, period, room))
         return Bench.from_script(script, period=period, **self.how)
 
     def stand_in(self, answers: str) -> Path:
-        """A program that answers as the body of a function does that is given a line and writes bytes by `write`."""
+        """A program that answers like the body of a function that receives a line and writes bytes by `write`."""
         body = "".join(f"    {line}\n" for line in answers.strip().splitlines())
         text = f"#!{sys.executable} -B\n{STAND_IN.replace('    BODY', body)}"
         path = self.folder / "stand-in"
@@ -81,13 +81,13 @@ class Case(unittest.TestCase):
 
 
 def run_words(*words: str) -> Tuple[int, str]:
-    """The exit status of a subcommand in this process, and what it wrote to standard output."""
+    """The exit status of a subcommand in this process, and its standard output."""
     with contextlib.redirect_stdout(io.StringIO()) as told:
         return main(list(words)), told.getvalue()
 
 
 def worked(process: int) -> float:
-    """The seconds of processors that a process and the programs that it has started have had, as /proc tells it."""
+    """The processor seconds of a process and the programs that it has started, by /proc."""
     ticks = 0
     for path in Path("/proc").glob("[0-9]*/stat"):
         with contextlib.suppress(OSError):
@@ -98,7 +98,7 @@ def worked(process: int) -> float:
 
 
 def wait_for_work(process: int, before: float) -> None:
-    """Waits until a process has worked for some tenths of a second more than before: then what it was asked is under way."""
+    """Waits until a process has worked for some tenths of a second more than before: then its task is running."""
     until = time.monotonic() + (LONG if Path("/proc/self/stat").exists() else 1)
     while worked(process) < before + 0.3 and time.monotonic() < until:
         time.sleep(0.05)
@@ -108,7 +108,7 @@ Kind = TypeVar("Kind", bound=Type[Case])
 
 
 def over_both(case: Kind) -> Kind:
-    """Has the tests of a class run over the library too, as those of another class of its module."""
+    """Makes the tests of a class run over the library too, as those of another class of its module."""
     name = f"{case.__name__}InProcess"
     other = type(name, (case,), {"how": OVER_LIBRARY, "__module__": case.__module__, "__qualname__": name})
     setattr(sys.modules[case.__module__], name, needs_library(other))
@@ -136,7 +136,7 @@ for line in iter(sys.stdin.readline, ""):
 
 
 def drawn_script(seed: int, events: int, activities: int, period: int = 60, room: int = 12) -> List[str]:
-    """The commands of a network that is drawn about a timetable, which all but a few spans meet."""
+    """The commands of a random network around a timetable, which all but a few spans meet."""
     draw = random.Random(seed)
     times = [draw.randrange(period) for _ in range(events)]
     lines = [f"add event {event}" for event in range(events)]
@@ -149,7 +149,7 @@ def drawn_script(seed: int, events: int, activities: int, period: int = 60, room
 
 
 def drawn_changes(draw: random.Random, period: int, count: int) -> List[str]:
-    """Command lines on a few events and activities, of which many are refused."""
+    """Command lines on a few events and activities, many of which are refused."""
     lines = []
     for _ in range(count):
         event, other, activity = draw.randrange(9), draw.randrange(9), draw.randrange(12)

@@ -1,10 +1,9 @@
-"""How long the answers of the package take: `python3 -m tests.measures [PROGRAM [LIBRARY]]` in the folder python/.
+"""The times of the package's answers: `python3 -m tests.measures [PROGRAM [LIBRARY]]` in the folder python/.
 
-First moves a second, on drawn networks with a time for each event, over the program and, where it is named, over the
-library: a time set and the cost told, one by one and by `moves`, and the bytes that the journal takes for each. Then, on
-drawn regions, seconds of the clock: why an infeasible region has no timetable, with all kinds changeable and with runs,
-dwells and headways held hard; the report on a feasible one; and a span changed with all domains asked for. Each is the best
-of three runs.
+First moves a second, on random networks with a time for each event, with the program and, if it is named, with the library:
+a time set and the cost returned, one by one and by `moves`, and the bytes of each in the journal. Then, on random regions,
+seconds of the clock: why an infeasible region has no timetable, with all kinds changeable and with runs, dwells and headways
+held; the report on a feasible one; and a changed span with all domains. Each is the best of three runs.
 """
 
 from __future__ import annotations
@@ -32,7 +31,7 @@ MOVES = 20_000
 
 
 def seconds(work: Callable[[], object]) -> float:
-    """The least time that some work takes."""
+    """The least time of some work."""
     taken = []
     for _ in range(RUNS):
         began = time.perf_counter()
@@ -70,7 +69,7 @@ def measure(folder: Path, seed: int, program: str) -> Sequence[float]:
 
 
 def moves_a_second(bench: Bench, moves: List[Tuple[int, int]]) -> Tuple[float, float]:
-    """How many moves a second there are one by one, and in one call."""
+    """How many moves a second are made one by one, and in one call."""
 
     def one_by_one() -> None:
         for event, at in moves:
@@ -81,7 +80,7 @@ def moves_a_second(bench: Bench, moves: List[Tuple[int, int]]) -> Tuple[float, f
 
 
 def journal_room(bench: Bench, moves: List[Tuple[int, int]]) -> float:
-    """The bytes that the journal takes for a move."""
+    """The bytes of a move in the journal."""
     tracemalloc.start()
     bench.moves(moves)
     taken = tracemalloc.get_traced_memory()[0] / len(moves)

@@ -1,4 +1,4 @@
-"""What the tests of reports share: a region with a timetable in a bench, and the elements of a page."""
+"""Common parts of the tests of reports: a region with a timetable in a bench, and the elements of a page."""
 
 from __future__ import annotations
 
@@ -41,7 +41,7 @@ class Node:
 
 
 class Page(HTMLParser):
-    """Reads a page; each element has to be closed in its order."""
+    """Reads a page; each element must be closed in its order."""
 
     def __init__(self, text: str) -> None:
         super().__init__()
@@ -64,13 +64,13 @@ class Page(HTMLParser):
         assert closed.tag == tag, f"{tag} closes {closed.tag}"
 
     def handle_data(self, data: str) -> None:
-        """Takes text into all elements that are open."""
+        """Adds text to all elements that are open."""
         for node in self.open:
             node.texts.append(data)
 
 
 def region_bench(folder: Path, seed: int = 1) -> Bench:
-    """A region with its hidden timetable; two events are held, one of them elsewhere, and one span is too short for it."""
+    """A region with its hidden timetable; two events are held, one of them at another time, and one span is too short for it."""
     region = draw_region(seed)
     region.save(folder)
     bench = Bench.open(folder / "activities", times=folder / "times", labels=folder / "labels", program=PROGRAM)

@@ -15,17 +15,16 @@ Answer = Union[bytes, int]
 MEMORY, REFUSED = 6, 13
 # The state of a search by the first words of the reply to `try`.
 STATES = {b"stopped none": 0, b"stopped": 1, b"optimum": 2, b"infeasible": 3}
-# What changes more than times.
+# The commands that change more than times.
 EDITS = CHANGES - {"time", "untime"}
 
 
 class StandIn:
-    """Answers by the reply to a line, or by the status that is told in its place. It counts what was opened and closed.
+    """Answers by the reply to a line, or by the status given instead. It counts opened and closed sessions.
 
-    Where it has the lower bound that a search tells after so many nodes, it has the call for searches, too. Calls of that one
-    after the other are one search, which answers as `try` does with all their nodes; an edit of the network begins it anew.
-    Where it has prices, by an event or activity, a residue and nodes, it has the calls for them: each is a state, a cost and a
-    lower bound.
+    If it has the lower bound that a search returns after a number of nodes, it has `pesp_search`, too. Successive calls are
+    one search, which answers like `try` with all their nodes; an edit of the network restarts it. If it has prices, by an
+    event or activity, a residue and nodes, it has the calls for them: each is a state, a cost and a lower bound.
     """
 
     def __init__(
@@ -35,7 +34,7 @@ class StandIn:
         self.answer, self.status, self.bound, self.price = answer, status, bound, price
         # The last is the nodes of the search so far.
         self.opened = self.closed = self.nodes = 0
-        # What was asked.
+        # The lines so far.
         self.lines: MutableSequence[bytes] = []
 
     def calls(self) -> Calls:
@@ -82,7 +81,7 @@ class StandIn:
             ctypes.memmove(room, times.tobytes(), 2 * min(room_length, len(times)))
 
     def _tell_found(self, found: ToldFound, words: List[bytes]) -> None:
-        """Tells what the first words of a reply say, and the bound."""
+        """Reports the first words of a reply, and the bound."""
         found.state = STATES[b" ".join(words) if words[-1] == b"none" else words[0]]
         found.cost = int(words[1]) if found.state in (1, 2) else 0
         found.lower_bound = self.bound(self.nodes) if self.bound else 0
@@ -101,7 +100,7 @@ class StandIn:
 
 
 def usual(line: bytes, others: "Dict[bytes, Callable[[], Answer]]") -> Answer:
-    """The reply of a network without events whose edits are all accepted, but to lines that others answer."""
+    """The reply of a network without events that accepts all edits, except to lines that others answer."""
     if line in others:
         return others[line]()
     return {b"dump": b"# period 10 lines 0\n", b"cost": b"cost 7\n"}.get(line, b"ok\n")

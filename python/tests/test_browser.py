@@ -1,6 +1,6 @@
-"""The report in headless Chromium, where there is one: it is drawn whole, on a screen, on a small one and on paper.
+"""The report in headless Chromium, if it is installed: it is completely drawn, on a screen, on a small one and on paper.
 
-Where there is no browser these tests are skipped with the words of NO_BROWSER.
+Without a browser these tests are skipped with the words of NO_BROWSER.
 """
 
 from __future__ import annotations
@@ -20,7 +20,7 @@ BROWSER = shutil.which("chromium") or shutil.which("chromium-browser") or shutil
 NO_BROWSER = "no browser was tried"
 SECONDS = 90
 POLICY = re.compile('<meta http-equiv="Content-Security-Policy"[^>]*>')
-# What a browser is asked about a page that it has laid out; the answer becomes the page's title.
+# The question to a browser about a page that it has laid out; the answer becomes the page's title.
 ASKED = """<script>
 const seen = [...document.querySelectorAll('svg text')].filter(text => {
   const inner = text.getBoundingClientRect(), outer = text.ownerSVGElement.getBoundingClientRect();
@@ -44,19 +44,19 @@ class Browser(Case):
         self.path.write_text(self.text, encoding="utf-8")
 
     def told_of(self, seed: int) -> Content:
-        """What the report on a region tells."""
+        """The texts of the report on a region."""
         with region_bench(self.folder, seed) as bench:
             return gather(bench, "A region", read_places(self.folder / "places"))
 
     def browse(self, page: Path, *words: str) -> str:
-        """Runs the browser on a page, and gives what it writes."""
+        """Runs the browser on a page, and returns its output."""
         quiet = ["--headless=new", "--no-sandbox", "--disable-gpu", "--hide-scrollbars", f"--user-data-dir={self.folder / 'profile'}"]
         command = [str(BROWSER), *quiet, *words, page.as_uri()]
         done = subprocess.run(command, capture_output=True, text=True, timeout=SECONDS, check=True)
         return done.stdout
 
     def told(self, text: str, width: int) -> str:
-        """What the browser says of a page at a width."""
+        """The browser's answer on a page at a width."""
         asked = self.folder / "asked.html"
         # The page's policy would let no other script run.
         asked.write_text(POLICY.sub("", text).replace("</body>", f"{ASKED}</body>"), encoding="utf-8")
@@ -73,7 +73,7 @@ class Browser(Case):
 
     @unittest.skipUnless(shutil.which("node"), NO_NODE)
     def test_same_elements(self) -> None:
-        """The browser draws what Node does."""
+        """The browser draws the same as Node."""
         found = re.search('<div id="printed">(.*)</div>\\s*<script type', self.browse(self.path, "--dump-dom"), re.S)
         assert found
         read, wanted = Page(found[1]).root, Page(drawn("report", self.content)).root

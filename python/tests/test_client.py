@@ -1,4 +1,4 @@
-"""The client over the program: each command, what is raised, and many lines at once."""
+"""The client with the program: each command, its exceptions, and many lines at once."""
 
 from __future__ import annotations
 
@@ -82,7 +82,7 @@ class Commands(Case):
         self.assertEqual(told.exception.event, 1)
 
     def test_no_timetable_is_taken(self) -> None:
-        """What a search found none of empties nothing."""
+        """The result of a search without a timetable does not clear the times."""
         bench = self.two_trains()
         bench.set_times({1: 0, 2: 4})
         before = list(bench.journal)
@@ -94,7 +94,7 @@ class Commands(Case):
             empty.set_times({})
 
     def test_one_face(self) -> None:
-        """What a search found can be read without asking what it is."""
+        """The result of a search can be read without knowing its type."""
         bench = self.two_trains()
         cases: List[Tuple[Found, Optional[int], Dict[int, int], Optional[int], bool]] = [
             (bench.optimum(), 4, {1: 0, 2: 4}, 4, True),
@@ -112,7 +112,7 @@ class Commands(Case):
         bench = self.two_trains(fixed=folder / "fixed", times=folder / "times")
         self.assertEqual((bench.network.windows, bench.times), ({1: Window(5), 2: None}, {1: 0, 2: 3}))
         self.assertEqual(bench.violations(), Violations((2,), (1,)))
-        # Times of other events are left out, and all are taken modulo the period.
+        # Times of other events are ignored, and all are taken modulo the period.
         times = self.folder / "times"
         times.write_text("1; -10\n2; 23\n9; 1\n")
         bench = self.two_trains(times=times)
@@ -126,7 +126,7 @@ class Commands(Case):
             pass
 
     def test_comments_that_tell_no_period(self) -> None:
-        """The period is that of the first comment that tells one, and else 60; lines end at line feeds alone."""
+        """The period is that of the first comment with one, and otherwise 60; only line feeds end lines."""
         for comment in ("# period", "# period x", "# period 1O lines 5", "#period 7", "# a period 7", "# period -5", "# period " + "9" * 5_000):
             with self.subTest(comment=comment[:20]), Bench.from_script(f"{comment}\nadd event 1\n", **self.how) as bench:
                 self.assertEqual((bench.period, bench.network.events), (60, [1]))
@@ -139,7 +139,7 @@ class Commands(Case):
 
 @over_both
 class Raised(Case):
-    """What is raised, and what is in it."""
+    """Exceptions and their contents."""
 
     def test_refused(self) -> None:
         bench = self.two_trains()
@@ -189,7 +189,7 @@ class Raised(Case):
 
 
 class Pipes(Case):
-    """Which program is run, and what its pipes save."""
+    """Which program is run, and what its pipes hold."""
 
     def test_which_program(self) -> None:
         with mock.patch.dict(os.environ, {"PESPBENCH": PROGRAM}), Bench.open(None) as bench:
@@ -203,7 +203,7 @@ class Pipes(Case):
 
     @unittest.skipUnless(shutil.which("node"), "there is no Node")
     def test_module(self) -> None:
-        """The page's module answers where there is no program, in other processes too."""
+        """The page's module answers without a program, also in other processes."""
         with mock.patch.dict(os.environ, {"PESPBENCH": str(self.folder / "none")}):
             with Bench.open(EXAMPLES / "two-trains/activities", period=10, engine="module") as bench:
                 self.assertEqual((bench.engine.name, bench.optimum()), ("module", Optimum(4, {1: 0, 2: 4})))
@@ -223,7 +223,7 @@ class Pipes(Case):
                 bench.many(lines)
                 one_by_one.append(middle - began)
                 at_once.append(time.monotonic() - middle)
-            # The least of some, since whatever else runs takes its time too.
+            # The least of some, since the machine is loaded.
             self.assertLess(min(at_once), min(one_by_one))
 
 
@@ -252,7 +252,7 @@ class Many(Case):
             self.assertEqual(came[-1], bench.dump())
 
     def test_past_the_limit_of_lines(self) -> None:
-        """A program takes a million lines; the client takes another program before that."""
+        """A program accepts a million lines; the client starts another program before that."""
         with Bench.open(None, **self.how) as bench:
             bench.add_event(1)
             with mock.patch("pespbench.process.MOST_LINES", 1_000), mock.patch("pespbench.session.BATCH", 100):

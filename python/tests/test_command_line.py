@@ -1,4 +1,4 @@
-"""The subcommands `shell` and `search`, and what all have in common."""
+"""The subcommands `shell` and `search`, and the common parts of all."""
 
 from __future__ import annotations
 
@@ -22,7 +22,7 @@ ENVIRONMENT = {**os.environ, "PESPBENCH": PROGRAM, "PYTHONPATH": str(TOP / "pyth
 
 
 def called(*words: str, given: str = "") -> Tuple[int, str, str]:
-    """The exit status of a subcommand, and what it wrote to standard output and to standard error."""
+    """The exit status of a subcommand, and its standard output and standard error."""
     command = [sys.executable, "-m", "pespbench", *words]
     done = subprocess.run(command, input=given, capture_output=True, text=True, env=ENVIRONMENT, timeout=LONG)
     return done.returncode, done.stdout, done.stderr
@@ -32,7 +32,7 @@ class Shell(Case):
     """`shell`."""
 
     def test_replies_are_the_programs(self) -> None:
-        """Each line is answered as the program answers it, byte for byte."""
+        """Each line is answered like by the program, byte for byte."""
         lines = "fix 1 0\ndomains\ndomain 2\nfix 9 0\ncost\ncosts\noptimum\nadopt\ncost\ntensions\nviolations\ntry 3\ndump\n"
         lines += "# a comment\n\nwindow 2 3 4\nspan 1 3 3\noptimum\ntime 2 9\nviolations\nadd event 7\nunfix 7\nuntime 7\n"
         wanted = subprocess.run([PROGRAM, *TWO], input=lines, capture_output=True, text=True).stdout
@@ -50,7 +50,7 @@ class Shell(Case):
         self.assertEqual(called("shell", folder, given="cost\n"), (0, "cost 4\n", ""))
 
     def test_taken_and_made_again(self) -> None:
-        """What a search found is taken, and what was taken back is made again, until something else is changed."""
+        """The result of a search is taken, and an undone change is redone, until something else is changed."""
         lines = "redo\ntake\nsearch 5\ntake\ncost\nspan 1 3 4\nundo\nundo\ntimes\nredo\nredo\nredo\ncost\nundo\nfix 1 0\nredo\n"
         none = "there is nothing to make again\n"
         wanted = f"{none}no search of this shell has found a timetable\noptimum 4 2\n1 0\n2 4\nok\ncost 4\nok\n"
@@ -61,7 +61,7 @@ class Shell(Case):
         self.assertEqual(called("shell", *TWO, given=lines), (0, wanted, ""))
 
     def test_why_and_helps(self) -> None:
-        """They answer as the subcommands do, and change nothing."""
+        """They answer like the subcommands, and change nothing."""
         words = ["shell", str(EXAMPLES / "two-changes")]
         told = called(*words, given="why\nundo\nspan 42 6 10\nhelps 100\nwhy\nhelps x\n")[1]
         self.assertTrue(told.startswith("These 6 cannot be met together:\n"), told)
@@ -100,7 +100,7 @@ class Shell(Case):
             os.close(leader)
 
     def test_stopped_in_a_sentence(self) -> None:
-        """The reply is the program's, and a planner is told what it says."""
+        """The reply is the program's, with an explanation for a planner."""
         told = "A timetable that meets everything costs 3; whether there is a better one is undecided."
         none = "Whether a timetable meets everything is undecided."
         fixed = self.folder / "times"
@@ -115,7 +115,7 @@ class Shell(Case):
         self.assertEqual(called("shell", *words, given=given), (0, wanted, ""))
 
     def test_control_c_at_a_terminal(self) -> None:
-        """Ctrl-C in a long search: the edits that were typed are there, and the next line is answered."""
+        """Ctrl-C in a long search: the typed edits remain, and the next line is answered."""
         script = "\n".join([*drawn_script(11, 100, 320), *(f"span {each} {each % 60} {each % 60 + 45}" for each in range(320))])
         activities = [line.split()[2:] for line in script.splitlines() if line.startswith("add activity")]
         path = self.folder / "activities"
@@ -161,7 +161,7 @@ class Searching(Case):
             self.assertEqual((Path(folder) / "times").read_text(), "event; time\n1; 0\n2; 4\n")
 
     def test_by_stations(self) -> None:
-        """Where events have stations, the timetable is told by them, at a prompt too; other forms are for programs."""
+        """If events have stations, the timetable is printed by them, also at a prompt; other forms are for programs."""
         labels = self.folder / "labels"
         labels.write_text("event; line; to; station; kind\n1; M; Dale; Benton; departure\n2; M; Dale; Ashford; pass\n")
         words, given = [*TWO, "--labels", str(labels)], "search 9\nadd event 3\ntime 1 0\ntime 2 4\ntime 3 9\nsearch 0\n"
@@ -180,7 +180,7 @@ class Searching(Case):
 
 
 class Faults(Case):
-    """What is told on standard error."""
+    """The output on standard error."""
 
     def test_told(self) -> None:
         table: List[Tuple[List[str], int, str]] = [
@@ -202,7 +202,7 @@ class Faults(Case):
         self.assertEqual(called("--help")[0], 0)
 
     def test_help_of_each(self) -> None:
-        """It begins with what the subcommand is for."""
+        """It begins with the purpose of the subcommand."""
         for name in ("why", "draw", "to-lintim"):
             with self.subTest(name=name):
                 self.assertRegex(called(name, "--help")[1], r"\n\n[A-Z][^\n]+[.]\n\npositional arguments:")

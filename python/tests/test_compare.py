@@ -1,4 +1,4 @@
-"""Two networks beside each other."""
+"""Two networks compared."""
 
 from __future__ import annotations
 
@@ -13,7 +13,7 @@ class Compare(Case):
     """The text of a comparison."""
 
     def sides(self, commands: list[str], labels: Labels | None = None) -> str:
-        """The hourly line beside what commands make of it."""
+        """The hourly line compared with its state after commands."""
         folder = EXAMPLES / "hourly-line"
         with Bench.open(folder / "activities", times=folder / "times", labels=labels, program=PROGRAM) as bench:
             before = Side.of(bench)
@@ -34,7 +34,7 @@ class Compare(Case):
         self.assertIn("  event 1: held at :03, was not held\n", text)
         self.assertIn("  event 2: held from :58 to :01, was not held\n", text)
         self.assertIn("Times\n  event 8: :18 to :27 (+9 minutes)\n\n", text)
-        # Activity 22 takes 27 in place of 18 minutes, 32 takes 4 in place of 13, and the slack of 33 costs 1 more.
+        # Activity 22 takes 27 instead of 18 minutes, 32 takes 4 instead of 13, and the slack of 33 costs 1 more.
         self.assertIn(f"  in all   {503:>14} {503 + 9 * 40 - 9 * 15 + 1:>14} {'+226':>14}\n", text)
         self.assertIn("Violations\n  1 before, 2 after\n", text)
 
@@ -68,7 +68,7 @@ class Compare(Case):
             self.assertIn("Times\n  event 1: :03 to :59 (-4 minutes)\n", compare(before, Side.of(bench)))
 
     def test_parts_turn_alone(self) -> None:
-        """Each part of the network by itself; an event alone is told as moved."""
+        """Each part of the network by itself; a single event is reported as moved."""
         script = "\n".join(["add event 1", "add event 2", "add event 3", "add event 4", "add event 5", "add activity 1 1 2 3 9 1", "add activity 2 4 3 3 9 1"])
         with Bench.from_script(script, program=PROGRAM) as bench:
             bench.set_times({1: 0, 2: 5, 3: 9, 4: 2, 5: 7})
@@ -79,7 +79,7 @@ class Compare(Case):
         self.assertEqual(rows, [*wanted, "event 5: :07 to :08 (+1 minute)"])
 
     def test_all_moved(self) -> None:
-        """What is held is not turned."""
+        """A held event is not shifted."""
         with Bench.from_script("add event 1\nadd event 2\nwindow 1 0 9\nadd activity 1 1 2 3 9 1", program=PROGRAM) as bench:
             bench.set_times({1: 0, 2: 5})
             before = Side.of(bench)

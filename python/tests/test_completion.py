@@ -16,7 +16,7 @@ MORE = (*OWN, *ENDS)
 
 
 class Candidates(Case):
-    """What can follow what was typed; the cursor is at its end."""
+    """The completions of typed words; the cursor is at their end."""
 
     def completed(self, line: str) -> List[str]:
         *before, begun = line.split(" ")
@@ -32,7 +32,7 @@ class Candidates(Case):
         self.assertEqual(set(self.completed("")) & {"add", "domain", "why", "quit", "redo"}, {"add", "domain", "why", "quit", "redo"})
 
     def test_numbers(self) -> None:
-        """Events and activities that are there, but no times, spans and new numbers."""
+        """Existing events and activities, but no times, spans and new numbers."""
         events, activities = ["1", "3", "12"], ["7", "21"]
         table: Dict[str, List[str]] = {
             "fix ": events, "domain 1": ["1", "12"], "fix 1 ": [], "drop event ": events, "add event ": [], "span ": activities, "span 2": ["21"],

@@ -1,4 +1,4 @@
-"""What a fault of a file of another form comes from, and what mends it."""
+"""The cause and the remedy of a fault in a file of another form."""
 
 from __future__ import annotations
 
@@ -13,7 +13,7 @@ from pespbench.places import read_places
 from tests.common import Case, over_both
 
 ROWS = "activity; from; to; lower; upper; weight\n1; 1; 2; 3; 5; 2\n2; 2; 1; 4; 6; 1\n"
-# Files of activities, and what cures each.
+# Files of activities, and the remedy of each.
 TABLE = [
     (ROWS.replace("; ", "\t").encode(), TABS),
     (ROWS.split("\n", 1)[1].replace("; ", "\t").encode(), TABS),
@@ -32,10 +32,10 @@ TABLE = [
 
 @over_both
 class Cures(Case):
-    """Each fault with its cure, told by the program and by the package's own readers."""
+    """Each fault with its remedy, from the program and from the package's own readers."""
 
     def raised(self, path: "os.PathLike[str]") -> Ended:
-        """How opening a file of activities ends."""
+        """The end of opening a file of activities."""
         with self.assertRaises(Ended) as told:
             Bench.open(path, **self.how).close()
         return told.exception
@@ -79,7 +79,7 @@ class Cures(Case):
             self.assertEqual(self.fault(lambda: read_places(path)).cure, cure)
 
     def test_in_each_others_place(self) -> None:
-        """A file of another kind is told as that, by its header or by its first row."""
+        """A file of another kind is reported as that, by its header or by its first row."""
         times, labels, places = "event; time\n1; 0\n", "event; line; to; station; kind\n1; M\n", "station; x; y\nDale; 1; 2\n"
         table = {"activities": [ROWS, ROWS.split("\n", 1)[1], ROWS.replace("; ", ",")], "times": [times, "1; 0\n", "-1,0\n"], "labels": [labels], "places": [places]}
         path, activities = self.folder / "file", self.folder / "activities"
@@ -98,7 +98,7 @@ class Cures(Case):
                     self.assertIn(f"a file of {found}, and not of places", self.fault(lambda: read_places(path)).cure)
 
     def test_what_cannot_be_read(self) -> None:
-        """The file is named, and what is wrong with it."""
+        """The file is named, with its fault."""
         (self.folder / "activities").write_text(ROWS)
         for path, cure in {self.folder / "none": "There is no such file.", self.folder: "It is a folder."}.items():
             for option in ("times", "fixed"):
@@ -108,13 +108,13 @@ class Cures(Case):
                 self.assertEqual(str(told.exception), f"pespbench: {option} file {path} cannot be read. {cure}")
 
     def fault(self, read: Callable[[], object]) -> FileFault:
-        """The fault that reading raises."""
+        """The exception of reading it."""
         with self.assertRaises(FileFault) as told:
             read()
         return told.exception
 
     def test_pipe_is_read_once(self) -> None:
-        """A file that can be read once alone has no cure, and is not waited for."""
+        """A file that can only be read once has no remedy, and is not waited for."""
         path = self.folder / "pipe"
         os.mkfifo(path)
         writer = threading.Thread(target=lambda: path.write_text("1\t2\n"), daemon=True)

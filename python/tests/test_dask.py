@@ -49,7 +49,7 @@ class Dask(Small):
                     self.assertEqual(optimum_in_parts(bench, executor=executor, ranges=4).text(), bench.optimum().text())
 
     def test_the_example(self) -> None:
-        """examples/on_a_cluster.py tells the same over Dask as by this machine's processors."""
+        """examples/on_a_cluster.py prints the same with Dask as with this machine's processors."""
         environment = {**os.environ, "PYTHONPATH": str(TOP / "python"), "PESPBENCH": PROGRAM}
         command = [sys.executable, str(EXAMPLES / "on_a_cluster.py"), str(EXAMPLES / "two-changes")]
         told = []

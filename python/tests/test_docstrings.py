@@ -1,4 +1,4 @@
-"""Each public call says what it is, and what it raises."""
+"""Each public call has a docstring, which names its exceptions."""
 
 from __future__ import annotations
 
@@ -10,7 +10,7 @@ from typing import Iterator, Tuple
 import pespbench
 
 PACKAGE = Path(pespbench.__file__).parent
-# What these raise is said by their class.
+# Their class documents what these raise.
 SAID_ELSEWHERE = {"ask"}
 
 
@@ -29,7 +29,7 @@ def raises(node: "ast.FunctionDef | ast.ClassDef") -> bool:
 
 
 def is_plain(node: "ast.FunctionDef | ast.ClassDef") -> bool:
-    """Whether it is a property that hands on what its name says."""
+    """Whether it is a property that returns what its name says."""
     return isinstance(node, ast.FunctionDef) and bool(node.decorator_list) and len(node.body) == 1
 
 

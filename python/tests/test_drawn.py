@@ -1,4 +1,4 @@
-"""The drawn region: the same for the same seed, of the size that it says, and feasible or not as it was asked for."""
+"""The random region: the same for the same seed, of the expected size, and feasible or not as requested."""
 
 from __future__ import annotations
 
@@ -14,7 +14,7 @@ from pespbench.report import read_places
 from tests.common import PROGRAM, Case
 
 SEEDS = range(1, 25)
-# How the region of seed 7 begins, on every machine.
+# The start of the region of seed 7, on every machine.
 FIRST_TIMES = [49, 0, 1, 13, 15, 28]
 FIRST_SPANS = [(11, 12, 136), (1, 2, 102), (12, 14, 101)]
 
@@ -43,7 +43,7 @@ class Drawn(Case):
                 self.assertTrue(10 <= min(widths) and max(widths) <= 35)
 
     def test_lines(self) -> None:
-        """More lines, and events and circles in proportion."""
+        """More lines, with events and circles in proportion."""
         for lines in (3, 4, 11, 24):
             region = draw_region(5, lines=lines)
             self.assertEqual((len({event.line for event in region.events}), missed(region), region.is_connected()), (lines, [], True))
@@ -63,7 +63,7 @@ class Drawn(Case):
     def test_same_again(self) -> None:
         self.assertEqual(draw_region(7), draw_region(7))
         self.assertNotEqual(draw_region(7).activities, draw_region(8).activities)
-        # The numbers are Python's first ones of the seed, which it keeps from release to release.
+        # The numbers are Python's first ones of the seed, which stay the same from release to release.
         first = draw_region(7)
         self.assertEqual([event.time for event in first.events[:6]], FIRST_TIMES)
         self.assertEqual([(each.lower, each.upper, each.weight) for each in first.activities[:3]], FIRST_SPANS)

@@ -1,4 +1,4 @@
-"""However a command is ended that searches, nothing that it started goes on."""
+"""However a command that searches is ended, nothing that it started continues."""
 
 from __future__ import annotations
 
@@ -15,7 +15,7 @@ from typing import Callable, Dict, List, Set
 
 from tests.common import LONG, TOP, Case
 
-# A program whose searches have no end, and which notes that it searches.
+# A program whose searches never end, and which records that it searches.
 SEARCHES = r"""
 if line == "dump":
     write(b"# period 60 lines 3\nadd event 1\nadd event 2\nadd activity 1 1 2 3 9 2\n")
@@ -45,7 +45,7 @@ STATUSES = {signal.SIGINT: 130, signal.SIGTERM: 143, signal.SIGHUP: 129, signal.
 
 @unittest.skipUnless(Path("/proc/self/environ").exists(), "processes are found by /proc")
 class Endings(Case):
-    """Over commands that are sent a signal while they search."""
+    """Commands that receive a signal while they search."""
 
     def setUp(self) -> None:
         super().setUp()
@@ -54,7 +54,7 @@ class Endings(Case):
         self.runs: Dict[str, str] = {}
 
     def started(self, name: str) -> "subprocess.Popen[bytes]":
-        """A command, in a session of its own as a terminal gives it; its environment tells all that it starts."""
+        """A command, in a session of its own like at a terminal; its environment marks all processes that it starts."""
         self.runs[name] = uuid.uuid4().hex
         environment = {**os.environ, "RUN": self.runs[name], "PYTHONPATH": str(TOP / "python")}
         words = ["-m", "pespbench", *name.split(), str(self.folder / "activities"), "--program", str(self.program)]

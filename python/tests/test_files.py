@@ -1,4 +1,4 @@
-"""Files read as the program reads them, and folders that are saved and loaded."""
+"""Files read like the program reads them, and folders that are saved and loaded."""
 
 from __future__ import annotations
 
@@ -30,7 +30,7 @@ class Reading(Case):
                     self.assertEqual(dict(sorted(files.read_activities(folder / "activities").items())), bench.network.activities)
 
     def told(self, words: "list[str]", kind: str) -> str:
-        """What the program says of a file: the record and the fault, or nothing."""
+        """The program's fault for a file: the record and the text, or nothing."""
         done = subprocess.run([PROGRAM, "--check", *words], stdin=subprocess.DEVNULL, capture_output=True)
         found = re.fullmatch(rf"pespbench: {kind} file, (record .*)\n", done.stderr.decode())
         return found[1] if found else ""
@@ -52,7 +52,7 @@ class Reading(Case):
                 self.assertEqual(dict(sorted(read.items())), bench.network.activities, text)
 
     def test_damaged_files(self) -> None:
-        """What is told of a damaged file, and else what is in it, is the same as by the program."""
+        """The fault of a damaged file, or otherwise its contents, is the same as by the program."""
         draw = random.Random(1838)
         for kind, whole in [("activities", ACTIVITIES), ("times", TIMES)]:
             self.same_fault(kind, whole)
@@ -112,7 +112,7 @@ class Folders(Case):
         self.assertFalse((self.folder / "labels").exists())
 
     def test_saved_again(self) -> None:
-        """Nothing of what was there before is left, and nothing half written."""
+        """Nothing of the old network remains, and nothing is incomplete."""
         bench = self.two_trains()
         bench.many(["window 1 2 3", "fix 2 1", "time 1 0", "add event 9"])
         bench.save(self.folder)

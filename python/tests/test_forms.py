@@ -1,4 +1,4 @@
-"""Answers on the command line as JSON and as CSV say what the text says."""
+"""Answers on the command line as JSON and as CSV have the same contents as the text."""
 
 from __future__ import annotations
 
@@ -28,19 +28,19 @@ TOLD: List[Dict[str, Any]] = [
 
 
 def asked(*commands: str) -> List[str]:
-    """The words that ask commands."""
+    """The words of command lines that answer."""
     return [word for command in commands for word in ("-c", command)]
 
 
 class Forms(Case):
-    """Each subcommand that tells answers."""
+    """The answer of each subcommand."""
 
     def json(self, *words: str) -> List[Any]:
-        """What each line of a subcommand's answer says."""
+        """The contents of each line of a subcommand's answer."""
         return [json.loads(line) for line in run_words(*words, "--json")[1].splitlines()]
 
     def csv(self, *words: str) -> List[Dict[str, str]]:
-        """The rows of the tables that a subcommand tells."""
+        """The rows of a subcommand's tables."""
         tables = run_words(*words, "--csv")[1].split("\n\n")
         return [row for table in tables for row in csv.DictReader(io.StringIO(table))]
 

@@ -1,4 +1,4 @@
-"""Feeds of GTFS: their periodic trains as folders, and what is no feed."""
+"""GTFS feeds: their periodic trains as folders, and invalid feeds."""
 
 from __future__ import annotations
 
@@ -50,7 +50,7 @@ FEED = {"stops": STOPS, "routes": ROUTES, "trips": TRIPS, "stop_times": TIMES, "
 
 
 class Feeds(Case):
-    """A main line each hour in both directions, a branch each half hour, and trips that do not come again."""
+    """A main line each hour in both directions, a branch each half hour, and trips that do not repeat."""
 
     def feed(self, **instead: str) -> Path:
         """A folder with the feed's files."""
@@ -61,7 +61,7 @@ class Feeds(Case):
         return folder
 
     def run_words(self, *words: str) -> Tuple[int, str]:
-        """The status of the subcommand, and what it tells on standard error."""
+        """The status of the subcommand, and its standard error."""
         with contextlib.redirect_stderr(io.StringIO()) as told:
             return main(["from-gtfs", *words]), told.getvalue()
 

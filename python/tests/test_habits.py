@@ -1,4 +1,4 @@
-"""What Python expects of a package: tables, graphs, iteration, what notebooks show, other whole numbers, and faults of types."""
+"""Python's conventions: tables, graphs, iteration, notebooks, other integers, and type errors."""
 
 from __future__ import annotations
 
@@ -17,7 +17,7 @@ BEST = {1: 0, 2: 4}
 
 
 def needs(name: str) -> Callable[[Any], Any]:
-    """Leaves a test out where a package of others is not here."""
+    """Skips a test if another package is not installed."""
     return unittest.skipUnless(util.find_spec(name), f"{name} is not installed")
 
 
@@ -26,7 +26,7 @@ class Tables(Case):
     """`of`, `rows` and `to_networkx`."""
 
     def made(self, given: Any, **more: Any) -> Bench:
-        """A bench of what is given."""
+        """A bench of the given network."""
         how: Dict[str, Any] = {**self.how, "period": 10, **more}
         bench = Bench.of(given, **how)
         self.addCleanup(bench.close)
@@ -98,7 +98,7 @@ class Tables(Case):
 
 
 class Answers(unittest.TestCase):
-    """Each answer is gone through."""
+    """Each answer is iterable."""
 
     def test_iteration(self) -> None:
         self.assertEqual((list(Domain(1, (2, 5))), 5 in Domain(1, (2, 5)), 4 in Domain(1, (2, 5))), ([2, 5], True, False))
@@ -110,7 +110,7 @@ class Answers(unittest.TestCase):
 
 @over_both
 class Numbers(Case):
-    """Whole numbers of any kind are numbers, and all else is told as Python tells it."""
+    """Integers of any kind are numbers, and everything else is a TypeError as usual."""
 
     def opened(self, period: Any) -> Bench:
         """The two trains at a period."""
@@ -150,7 +150,7 @@ class Numbers(Case):
 
 
 class Notebooks(Case):
-    """What a notebook shows."""
+    """The display in a notebook."""
 
     def test_bench(self) -> None:
         with Bench.load(EXAMPLES / "two-changes", program=PROGRAM) as bench:

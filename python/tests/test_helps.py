@@ -1,4 +1,4 @@
-"""What would help: each answer beside a search of its own, how they are told, and what is kept where it ends early."""
+"""What would help: each answer compared with a search of its own, their texts, and what is kept after an early end."""
 
 from __future__ import annotations
 
@@ -20,7 +20,7 @@ from pespbench.helps import Gain, Helps, helps, text_of
 from pespbench.helps.questions import Question
 from tests.common import EXAMPLES, LONG, PATIENCE, PROGRAM, TOP, Case, over_both
 
-# Two trains that have to meet at both ends, at period 30: where a minute more of one turn, or of the other, lets them meet better.
+# Two trains that have to meet at both ends, at period 30: one more minute of one turn, or of the other, lets them meet better.
 TURNS = "1; 1; 2; 10; 10; 1\n2; 2; 3; 3; 5; 4\n3; 3; 4; 10; 10; 1\n4; 4; 1; 4; 6; 2\n5; 2; 1; 3; 30; 9\n"
 KINDS = {1: "run", 2: "turn", 3: "run", 4: "turn", 5: "change"}
 
@@ -30,7 +30,7 @@ def cost(found: Found) -> Optional[int]:
 
 
 def saved(bench: Bench, activity: Activity, minutes: int) -> Optional[int]:
-    """What another span saves, by two searches: None where there is no timetable with it, or none as it is."""
+    """What another span saves, by two searches: None if there is no timetable with it, or none without it."""
     more, less = max(minutes, 0), max(-minutes, 0)
     before = cost(bench.optimum())
     with bench.trial():
@@ -40,10 +40,10 @@ def saved(bench: Bench, activity: Activity, minutes: int) -> Optional[int]:
 
 
 class Answers(unittest.TestCase):
-    """What is asked, and what is made of what comes, without a program."""
+    """The questions, and the handling of answers, without a program."""
 
     def test_spans(self) -> None:
-        """A span is never wider than what rules something out needs, and a least minute that is taken off is paid."""
+        """A span is never wider than needed to exclude nothing, and the cost of a lowered minimum counts."""
         activity = Activity(7, 1, 2, 3, 9, 5)
         table = [(1, 3, 10, 0), (3, 3, 12, 0), (99, 3, 12, 0), (-1, 2, 9, 5), (-3, 0, 9, 15), (-99, 0, 9, 15)]
         for minutes, lower, upper, paid in table:
@@ -61,7 +61,7 @@ class Answers(unittest.TestCase):
             self.assertEqual(question.gain(before, found), Gain(7, 2, 9, found, saves))
 
     def test_order(self) -> None:
-        """The most first; where there is no timetable as it is, the cheapest."""
+        """The most first; if the unchanged network has no timetable, the cheapest."""
         came = [Gain(number, 0, 1, Optimum(30 - saves, {}), saves) for number, saves in [(4, 2), (3, 0), (2, 2), (1, 5), (9, -3)]]
         answer = Helps(1, Optimum(30, {}), 6, (*came, Gain(8, 0, 1, Infeasible(), None)))
         self.assertEqual([gain.activity for gain in answer.gains], [1, 2, 4])
@@ -114,7 +114,8 @@ class Asked(Case):
         self.assertEqual(answer.before, bench.optimum())
 
     def test_kinds(self) -> None:
-        """Those that are named; else all but runs, dwells and headways; of them those that rule something out, the dearest first."""
+        """Those that are named; by default all but runs, dwells and headways; of them those that exclude something, the dearest
+        first."""
         bench = self.turns()
         before = bench.dump(), bench.journal, bench.times
         with ThreadPoolExecutor(2) as executor:
@@ -128,7 +129,7 @@ class Asked(Case):
         self.assertEqual((bench.dump(), bench.journal, bench.times), before)
 
     def test_without_kinds(self) -> None:
-        """Where no activity has a kind, all are asked about."""
+        """If no activity has a kind, all are tried."""
         bench = self.two_trains()
         bench.set_times({1: 0, 2: 5})
         answer = helps(bench, minutes=-1, workers=1)
@@ -136,7 +137,7 @@ class Asked(Case):
         self.assertEqual(([gain.activity for gain in answer.answers], bench.times), ([1, 2], {1: 0, 2: 5}))
 
     def test_none_as_it_is(self) -> None:
-        """Of the planner's story each is listed that mends it, with the cost of its timetable."""
+        """For the planner's story each repair is listed, with the cost of its timetable."""
         with Bench.load(EXAMPLES / "two-changes", **self.how) as bench, ThreadPoolExecutor(2) as executor:
             answer = helps(bench, ["change", "turn"], minutes=2, executor=executor)
             self.assertEqual((answer.before, {gain.saves for gain in answer.answers}), (Infeasible(), {None}))
@@ -151,7 +152,7 @@ class Asked(Case):
             self.assertTrue(wanted)
 
     def test_watched(self) -> None:
-        """What is known is told before the first question and after each."""
+        """The results are reported before the first question and after each."""
         seen: List[Helps] = []
         with ThreadPoolExecutor(1) as executor:
             answer = helps(self.turns(), watch=seen.append, executor=executor)
@@ -159,7 +160,7 @@ class Asked(Case):
         self.assertEqual((seen[-1], {each.before for each in seen if isinstance(each.before, Infeasible)}), (answer, set()))
 
     def test_what_stands(self) -> None:
-        """A search that stops with nothing does not hide the working timetable."""
+        """A search that stops without a timetable does not hide the working timetable."""
         bench = self.drawn(2, 12, 24, room=6)
         self.addCleanup(bench.close)
         best = bench.optimum()
@@ -186,7 +187,7 @@ class Asked(Case):
         self.assertRaises(ValueError, helps, bench, ["runs"])
 
 
-# Activities of 3 to 9 minutes at period 60; a search of a wider activity 2 does not end, and others save what their number is.
+# Activities of 3 to 9 minutes at period 60; a search with a wider activity 2 does not end, and others save their number.
 HALF = r"""
 known = answer.__dict__
 if line == "dump":
@@ -208,7 +209,7 @@ else:
 
 
 class EndedEarly(Case):
-    """Where one search has no end: what others came to is kept."""
+    """If one search never ends, the results of others are kept."""
 
     WANTED = [(3, 3), (1, 1)]
 
@@ -220,7 +221,7 @@ class EndedEarly(Case):
         return [(gain.activity, gain.saves) for gain in answer.gains]
 
     def over_after_two(self, bench: Bench, **how: Any) -> Helps:
-        """What is told where the time is over as soon as two have answered."""
+        """The report if the time is over as soon as two have answered."""
         seen: List[Helps] = []
 
         def now() -> float:
@@ -230,7 +231,7 @@ class EndedEarly(Case):
             return helps(bench, seconds=600, watch=seen.append, **how)
 
     def test_out_of_time(self) -> None:
-        """What came until then is told, and no search goes on, in processes and in threads of this one."""
+        """The results until then are reported, and no search continues, in processes and in threads of this one."""
         with Bench.open(None, program=self.program) as bench:
             with ThreadPoolExecutor(2) as executor:
                 answers = [self.over_after_two(bench, workers=2), self.over_after_two(bench, executor=executor)]
@@ -240,14 +241,14 @@ class EndedEarly(Case):
             bench.add_event(3)
 
     def test_first_search_without_end(self) -> None:
-        """It takes a part of the time alone, and the questions have the rest."""
+        """It gets only a part of the time, and the questions the rest."""
         program = self.stand_in(HALF.replace("if wide == 2:", "if wide == 0:"))
         with Bench.open(None, program=program) as bench:
             answer = helps(bench, seconds=15, workers=1)
         self.assertEqual((answer.before, sorted(gain.activity for gain in answer.answers)), (Stopped(), [1, 2, 3]))
 
     def test_interrupt(self) -> None:
-        """At Ctrl-C and SIGTERM the command tells what is known, and its status says so."""
+        """At Ctrl-C and SIGTERM the command prints its results, and its status reports the signal."""
         network = self.folder / "activities"
         network.write_text("".join(f"{number}; 1; 2; 3; 9; 1\n" for number in (1, 2, 3)))
         words = [sys.executable, "-m", "pespbench", "helps", str(network), "--program", str(self.program), "--workers", "1"]

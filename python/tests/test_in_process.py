@@ -1,4 +1,4 @@
-"""The engine in process over a stand-in of the library: calls that fail, and searches that are given up."""
+"""The engine in process with a stand-in of the library: calls that fail, and searches that are abandoned."""
 
 from __future__ import annotations
 
@@ -24,10 +24,10 @@ def same(answer: Answer) -> Answer:
 
 
 class StandIns(Case):
-    """Over calls that fail, or do not come back."""
+    """Calls that fail, or do not return."""
 
     def opened(self, others: Optional[Dict[bytes, Callable[[], Answer]]] = None, **how: Any) -> Bench:
-        """A bench over a stand-in that answers as usual, but for some lines."""
+        """A bench over a stand-in that answers as usual, except some lines."""
         self.library = StandIn(lambda line: usual(line, others or {}), how.pop("status", 0))
         loading = mock.patch("pespbench.library.loaded", return_value=self.library.calls())
         loading.start()
@@ -44,7 +44,7 @@ class StandIns(Case):
             time.sleep(0.01)
 
     def test_no_memory(self) -> None:
-        """It is told as the program tells it; what was accepted is there in the next session."""
+        """The text is the program's; the next session has all accepted changes."""
         for command in ("fix 1 2", "time 1 2", "optimum"):
             bench = self.opened({command.encode(): lambda: MEMORY})
             bench.add_event(1)
@@ -71,7 +71,7 @@ class StandIns(Case):
             self.assertEqual((bench.network.events, self.counts()), ([1], (2, 1)))
 
     def test_long_replies(self) -> None:
-        """A reply that is longer than the room is asked for once more, and then there is room."""
+        """A reply that is longer than the room is requested once more, and then there is room."""
         reply = b"violations 90000\n" + b"activity 1\n" * 90_000
         bench = self.opened({b"violations": lambda: reply})
         self.assertEqual([len(bench.violations()) for _ in range(3)], [90_000] * 3)
@@ -92,7 +92,7 @@ class StandIns(Case):
         self.assertEqual(self.counts(), (1, 1), "one that nobody closes goes with its object")
 
     def searching(self) -> "tuple[Bench, threading.Event, threading.Event]":
-        """A bench whose optimum and whose second `try` do not end before that is said; and whether they are asked."""
+        """A bench whose optimum and whose second `try` do not end until they are told to; and whether they were asked."""
         asked, may_end = threading.Event(), threading.Event()
         self.addCleanup(may_end.set)
 
@@ -108,7 +108,7 @@ class StandIns(Case):
         return bench, asked, may_end
 
     def when(self, asked: threading.Event, do: Callable[[], object]) -> None:
-        """Does something as soon as the search is asked, in another thread."""
+        """Does something as soon as the search has started, in another thread."""
 
         def wait() -> None:
             asked.wait(LONG)
@@ -117,7 +117,7 @@ class StandIns(Case):
         threading.Thread(target=wait, daemon=True).start()
 
     def goes_on(self, bench: Bench, may_end: threading.Event) -> None:
-        """The bench answers in another session; that of the search is closed as soon as it has come to its end."""
+        """The bench answers in another session; that of the search is closed as soon as it has ended."""
         bench.fix(1, 2)
         self.assertEqual((bench.network.windows, bench.times, self.counts()), ({1: Window(2)}, {1: 3}, (2, 0)))
         self.assertEqual(list(self.library.lines)[-3:], [b"add event 1", b"time 1 3", b"fix 1 2"])
@@ -147,7 +147,7 @@ class StandIns(Case):
         self.goes_on(bench, may_end)
 
     def test_closed_while_it_searches(self) -> None:
-        """By another thread: who waits goes on to wait for the answer, and the session is closed after it, once."""
+        """From another thread: the waiting caller waits for the answer, and the session is closed after it, once."""
         bench, asked, may_end = self.searching()
 
         def close() -> None:
@@ -161,7 +161,7 @@ class StandIns(Case):
         self.assertRaises(ValueError, bench.cost)
 
     def test_interrupt_in_a_move(self) -> None:
-        """Where it comes between the library's answer and the note of it, nothing was accepted."""
+        """If it comes between the library's answer and its record, nothing was accepted."""
         interrupts = iter([True, True])
 
         def broken_off() -> Answer:
@@ -181,7 +181,7 @@ class StandIns(Case):
         self.assertEqual(bench.times, {1: 4})
 
     def test_room_of_the_journal(self) -> None:
-        """A move takes about a hundred bytes of the journal, and none where none is kept."""
+        """A move takes about a hundred bytes of the journal, and none if none is kept."""
         moves = [(1_000 + move % 500, move % 10) for move in range(20_000)]
         wanted: List[Tuple[Union[int, str], int, int]] = [("all", 50, 160), ("none", 0, 8), (100, 0, 8)]
         for journal, least, most in wanted:

@@ -1,4 +1,4 @@
-"""The journal: taking back, trials, and a program that is started again."""
+"""The journal: undo, trials, and a restarted program."""
 
 from __future__ import annotations
 
@@ -57,7 +57,7 @@ class TakenBack(Case):
         self.assertEqual(bench.dump(), before)
 
     def test_drawn_changes(self) -> None:
-        """Whatever is accepted, refused and taken back, the client and the program know the same."""
+        """Whatever is accepted, refused and undone, the client and the program agree."""
         for seed in range(30):
             draw = random.Random(seed)
             with Bench.open(None, period=7, **self.how) as bench:
@@ -84,7 +84,7 @@ class TakenBack(Case):
 class Bounded(Case):
     """A journal that keeps the last changes, or none."""
 
-    # What keeps nothing, or one change.
+    # A journal that keeps nothing, or one change.
     NONE: List[Union[int, str]] = ["none", 0]
     FEW: List[Union[int, str]] = ["none", 1]
 
@@ -112,7 +112,7 @@ class Bounded(Case):
         self.assertEqual(bench.times, {1: 0, 2: 2})
 
     def test_none(self) -> None:
-        """Of none there is nothing to take back; all that is accepted is there again where the engine has ended."""
+        """Without a journal nothing can be undone; all accepted changes are there again after the engine has ended."""
         for journal in self.NONE:
             bench = self.opened(journal)
             with self.assertRaises(ValueError) as told:
@@ -129,7 +129,7 @@ class Bounded(Case):
             self.assertEqual((bench.dump(), bench.cost(), bench.times), before)
 
     def test_trials(self) -> None:
-        """A trial, and times that are set as one, keep what they need while they last."""
+        """A trial, and times that are set as one change, keep what they need while they last."""
         for journal in self.FEW:
             bench = self.opened(journal)
             bench.many(["fix 1 0", "fix 1 1"])
@@ -163,7 +163,7 @@ class Bounded(Case):
 
 
 class Hard(Case):
-    """A test over a search that takes long."""
+    """A test with a search that takes long."""
 
     def hard(self) -> Bench:
         """A network whose optimum is not found in a minute."""
@@ -194,10 +194,10 @@ class StartedAgain(Hard):
 
 
 class Interrupted(Hard):
-    """Ctrl-C; over the library see tests.test_in_process, since the search goes on there."""
+    """Ctrl-C; over the library see tests.test_in_process, since the search continues there."""
 
     def test_interrupt(self) -> None:
-        """Ctrl-C in a search: what was accepted is there afterwards, soon."""
+        """Ctrl-C in a search: the accepted changes remain, and the bench answers soon."""
         bench = self.hard()
         bench.time(3, 7)
         before, journal = bench.dump(), bench.journal

@@ -1,4 +1,4 @@
-"""Where stations lie: places of a file. How they are laid out is the page's, and tested with it (tools/page_tests/layouts.py)."""
+"""Places of stations in a file. The page lays out the others, and tools/page_tests/layouts.py tests that."""
 
 from __future__ import annotations
 

@@ -1,4 +1,4 @@
-"""The library in process: where it is looked for, and what holds over it alone."""
+"""The library in process: where it is searched for, and what only it promises."""
 
 from __future__ import annotations
 
@@ -20,7 +20,7 @@ from tests.common import LIBRARY, LONG, OVER_LIBRARY, OVER_PROGRAM, TOP, Case, d
 
 
 class Finding(Case):
-    """Where it is looked for."""
+    """Where it is searched for."""
 
     def setUp(self) -> None:
         super().setUp()
@@ -38,7 +38,7 @@ class Finding(Case):
         return path
 
     def test_named(self) -> None:
-        """One that is named is taken, and nothing else where it is not there."""
+        """A named one is used, and nothing else if it is missing."""
         beside, program = self.file("prefix/lib/libpespbench.so"), self.file("prefix/bin/pespbench")
         other, own = self.file("other/libpespbench.so"), self.file("own.so")
         for named in (other, other.parent):
@@ -55,7 +55,7 @@ class Finding(Case):
         self.assertEqual(find_library(None, program), str(beside))
 
     def test_beside(self) -> None:
-        """As tools/install puts it, also where the program is a link to what was installed."""
+        """Where tools/install puts it, also if the program is a link to the installed one."""
         library, program = self.file("prefix/lib/libpespbench.so"), self.file("prefix/bin/pespbench")
         link = self.folder / "pespbench"
         self.assertRaises(NoLibrary, find_library)
@@ -102,7 +102,7 @@ class Finding(Case):
         self.assertEqual(done.stdout, b"False\n")
 
 
-# A library of two events whose searches tell what they are asked.
+# A library of two events whose searches record their questions.
 STAND_IN = """
 #include <stdbool.h>
 #include <stddef.h>
@@ -140,7 +140,7 @@ void pesp_search(struct session *session, uint64_t nodes, uint16_t *out, size_t 
 
 @unittest.skipUnless(shutil.which("gcc"), "there is no gcc to compile a library with")
 class Compiled(Case):
-    """Over a library in C that stands in for the one in process."""
+    """A library in C that stands in for the one in process."""
 
     def library(self, *options: str) -> Path:
         """The library, compiled."""
@@ -150,7 +150,7 @@ class Compiled(Case):
         return library
 
     def test_with_the_call_for_searches(self) -> None:
-        """Numbers of 64 bits go in and come out; a search tells cost, bound and times, and whether the next one goes on."""
+        """Numbers of 64 bits go in and come out; a search returns cost, bound and times, and whether the next one resumes it."""
         with Bench.open(None, period=10, engine="library", library=self.library("-DNEWER")) as bench:
             first, *_, last = bench.search(60, nodes=2**31)
             going = [bench._session.searched(nodes, time.monotonic() + LONG).goes_on for nodes in (1, 2, 2**32)]
@@ -159,13 +159,13 @@ class Compiled(Case):
         self.assertEqual(going, [True, False, False])
 
     def test_without_it(self) -> None:
-        """An older library opens, and a search goes by lines."""
+        """An older library opens, and searches by lines."""
         with Bench.open(None, period=10, engine="library", library=self.library()) as bench:
             first = next(bench.search(60))
         self.assertEqual((first.found, first.lower_bound), (Stopped(9, {3: 1, 5: 4}), None))
 
 
-# A search without an end that is broken off, and then a process that ends.
+# An endless search that is interrupted, followed by the end of the process.
 BROKEN_OFF = """
 import sys, threading, time
 from pespbench import Bench
@@ -188,7 +188,7 @@ class Library(Case):
     """Over the library itself."""
 
     def test_ctrl_c(self) -> None:
-        """It is heard in a search that takes minutes, the bench goes on, and the process does not wait for it."""
+        """Ctrl-C interrupts a search that takes minutes, the bench continues, and the process does not wait for the search."""
         script, program = self.folder / "script", self.folder / "program.py"
         edits = [f"span {activity} {activity % 60} {activity % 60 + 45}" for activity in range(320)]
         script.write_text("\n".join([*drawn_script(11, 100, 320), *edits]))
@@ -211,14 +211,14 @@ class Library(Case):
                 self.assertEqual(other.cost(), 0)
 
     def test_periods(self) -> None:
-        """None is taken for another one."""
+        """None is mistaken for another one."""
         for period in (-1, 0, 1, 1_441, 65_536 + 10):
             with self.assertRaises(Ended) as told:
                 Bench.open(None, period=period, **OVER_LIBRARY)
             self.assertEqual((told.exception.status, str(told.exception)), (2, "pespbench: the period is not 2 to 1440"))
 
     def test_faults(self) -> None:
-        """Files that are not taken, and why: as the program tells it."""
+        """Files that are refused, with the program's texts."""
         two, times = "1; 1; 2; 3; 5; 2\n2; 2; 1; 4; 6; 1\n", "1; 0\n2; 3\n"
         wrong = ["1; 1\n", "x; 1; 2; 3; 5; 2\n", "1; 1; -2; 3; 5; 2\n", "1; 1; 2; 3; 5; 0.5\n", "1; 1; 2; 5; 3; 2\n", two + two]
         wrong += ["1; 1; 2; 3; 1000000000000; 2\n", "\ufeff", "; ; \n", '"1; 1\n']
@@ -232,14 +232,14 @@ class Library(Case):
                 self.assertEqual(self.told(case, OVER_LIBRARY), self.told(case, OVER_PROGRAM))
 
     def longest(self) -> Path:
-        """A file of one byte more than may be."""
+        """A file with one byte more than allowed."""
         path = self.folder / "longest"
         path.touch()
         os.truncate(path, 67_108_865)
         return path
 
     def told(self, case: Dict[str, Union[str, Path]], how: Dict[str, Any]) -> Tuple[int, str, str]:
-        """How opening files ends, of their texts or where they are."""
+        """The end of opening files, from their texts or from paths."""
         for name, text in case.items():
             if isinstance(text, str):
                 (self.folder / name).write_text(text, encoding="utf-8")
@@ -251,7 +251,7 @@ class Library(Case):
             return getattr(ended, "status", 0), str(ended), ended.cure
 
     def test_many_sessions(self) -> None:
-        """Side by side, and in processes of their own."""
+        """In parallel, and in processes of their own."""
         benches = [Bench.open(None, period=10, **OVER_LIBRARY) for _ in range(20)]
         for place, bench in enumerate(benches):
             bench.many(["add event 1", f"time 1 {place % 10}"])

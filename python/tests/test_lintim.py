@@ -34,7 +34,7 @@ EVENTS = """\
 5; "departure"; 8; 2; 30; <; 1
 """
 STOPS = '# stop; short; long; x; y\n7; A; "Ashford"; 0.0; 1.5\n8; B; "Benton"; 10; 2\n9; C; ; 20; -1\n'
-# Where LinTim has its files.
+# LinTim's paths of files.
 LINTIM = {
     "activities": "timetabling/Activities-periodic.giv", "timetable": "timetabling/Timetable-periodic.tim",
     "events": "timetabling/Events-periodic.giv", "stops": "basis/Stop.giv",
@@ -42,7 +42,7 @@ LINTIM = {
 
 
 class LinTimFiles(Case):
-    """Files as LinTim writes them."""
+    """Files in LinTim's form."""
 
     def setUp(self) -> None:
         super().setUp()
@@ -52,11 +52,11 @@ class LinTimFiles(Case):
             self.paths[name].write_text(text)
 
     def read(self) -> LinTim:
-        """What the four files are read as."""
+        """The contents of the four files."""
         return read_lintim(*(self.paths[name] for name in ("activities", "timetable", "events", "stops")))
 
     def run_words(self, *words: str) -> str:
-        """Runs a subcommand; what it tells on standard error."""
+        """Runs a subcommand; returns its standard error."""
         parser = argparse.ArgumentParser()
         add_parser(parser.add_subparsers())
         chosen = parser.parse_args(words)
@@ -97,7 +97,7 @@ class LinTimFiles(Case):
         self.assertEqual((self.folder / "back.tim").read_text(), TIMETABLE.replace("62", "2"))
 
     def folder_of(self, names: Mapping[str, str]) -> Path:
-        """A folder with LinTim's files under such names, by the names of these here."""
+        """A folder with LinTim's files under other names."""
         folder = self.folder / "lintim"
         for name, place in names.items():
             (folder / place).parent.mkdir(parents=True, exist_ok=True)
@@ -125,7 +125,7 @@ class LinTimFiles(Case):
             self.assertEqual((bench.period, *known), (120, bench.network.activities, bench.times, bench.labels, bench.places))
 
     def test_columns_by_their_names(self) -> None:
-        """Columns stand in the order that a comment tells, as TimPassLib's do, without passengers."""
+        """Columns are in the order of a comment, like those of TimPassLib, without passengers."""
         rows = "# activity_index; from_event; to_event; lower_bound; upper_bound; type\n7; 1; 2; 24; 26; DRIVE\n8; 2; 3; 2; 5; change\n"
         self.paths["activities"].write_text(rows)
         self.paths["events"].write_text("# type; event index; Line-ID; stop_id; direction\ndeparture; 1; 4; 7; >\narrival; 2; 4; 8; >\n")
@@ -168,7 +168,7 @@ class LinTimFiles(Case):
             self.assertEqual((caught.exception.path, caught.exception.record), (str(self.paths["activities"]), record))
 
     def test_no_text_and_no_table(self) -> None:
-        """What Python says of a damaged file is told in other words."""
+        """Python's text on a damaged file is replaced."""
         for data, wanted in {b"1; drive; \xff\n": "it is not in UTF-8", b"1; " + 200_000 * b"x": "it cannot be cut into fields"}.items():
             self.paths["activities"].write_bytes(data)
             self.assertRaisesRegex(FileFault, f"activities.giv, record 1: {wanted}", self.read)
@@ -197,7 +197,7 @@ class LinTimFiles(Case):
         self.assertFalse((self.folder / "network").exists())
 
     def test_drives_in_circles(self) -> None:
-        """A train whose drives lead into a circle, or round one, ends before it comes to where it was."""
+        """A train whose drives lead into a circle, or round one, ends before it reaches an event again."""
         rows = ["1; drive; 1; 2; 3; 4; 5", "2; drive; 2; 3; 3; 4; 5", "3; wait; 3; 2; 3; 4; 5", "4; drive; 4; 5; 3; 4; 5", "5; drive; 5; 4; 3; 4; 5"]
         self.paths["activities"].write_text("\n".join(rows))
         self.paths["events"].write_text("".join(f"{event}; departure; {event}; 1\n" for event in range(1, 6)))

@@ -1,4 +1,4 @@
-"""Text of strangers is read in one pass: in about a second of a processor a megabyte, and four times that for four."""
+"""Strangers' texts are read in one pass: in about a processor second a megabyte, and four times that for four."""
 
 from __future__ import annotations
 
@@ -25,9 +25,9 @@ from pespbench.terminal import shown
 from tests.common import LONG, PATIENCE, TOP, Case
 
 MEGABYTE = 1_000_000 // PATIENCE
-# Seconds of a processor that a megabyte may take on a slow machine, and how many times as long four megabytes take at most.
+# Processor seconds of a megabyte on a slow machine, and the greatest ratio for four megabytes.
 SECONDS, TIMES = 3.0, 10.0
-# Seconds after which a reader is given up, so that one that goes through its text again and again is found soon.
+# Seconds after which a reader is stopped, so that one that reads its text repeatedly is found soon.
 GIVEN_UP = 2 * LONG
 
 
@@ -36,7 +36,7 @@ def text_of(path: Path) -> str:
 
 
 def lines_of(path: Path) -> None:
-    """The first step of what `Bench.from_script` does."""
+    """The first step of `Bench.from_script`."""
     for line in text_of(path).split("\n"):
         PERIOD_COMMENT.match(line)
 
@@ -77,7 +77,7 @@ ALWAYS = ["b'9'", "b' '", "b'A; 1; ' and then b'1'"]
 
 
 def shapes() -> Iterator[Tuple[str, Callable[[int], bytes]]]:
-    """Texts of a stranger by their length: one character, pairs of them, and a field of one that is no number in the end."""
+    """Texts of a stranger by their length: one character, pairs of them, and a field of one with an invalid end."""
     for letter in [LETTERS[place : place + 1] for place in range(len(LETTERS))] + PAIRS:
         yield repr(letter), lambda length, each=letter: each * (length // len(each))  # type: ignore[misc]
     for head in HEADS:
@@ -87,7 +87,7 @@ def shapes() -> Iterator[Tuple[str, Callable[[int], bytes]]]:
 
 
 def taken(read: Callable[[Path], Any], path: Path, data: bytes) -> float:
-    """The seconds of a processor in which a text is read or refused."""
+    """The processor seconds until a text is read or refused."""
     path.write_bytes(data)
     began = time.process_time()
     try:
@@ -98,7 +98,7 @@ def taken(read: Callable[[Path], Any], path: Path, data: bytes) -> float:
 
 
 def measured(name: str, path: Path) -> None:
-    """Writes what one megabyte takes and what four do: for some shapes, and for those of which a quarter takes longest."""
+    """Writes the figures of one megabyte and of four: for some shapes, and for those of which a quarter takes longest."""
     read, made = READERS[name], dict(shapes())
     took: Dict[str, float] = {}
     for shape, make in made.items():
@@ -110,7 +110,7 @@ def measured(name: str, path: Path) -> None:
 
 
 class LongInput(Case):
-    """Each reader, in a process of its own that is given up where it takes too long."""
+    """Each reader, in a process of its own that is stopped if it takes too long."""
 
     def test_one_pass(self) -> None:
         with ThreadPoolExecutor(os.cpu_count()) as pool:

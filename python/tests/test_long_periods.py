@@ -1,4 +1,4 @@
-"""At periods of several hours, times are told with their hour: in the report, in why and in a comparison."""
+"""At periods of several hours, times are written with their hour: in the report, in why and in a comparison."""
 
 from __future__ import annotations
 

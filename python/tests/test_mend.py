@@ -19,7 +19,7 @@ LINE = [str(EXAMPLES / "hourly-line/activities"), "--times", str(EXAMPLES / "hou
 
 
 class Words(Case):
-    """Command lines with what they print."""
+    """Command lines with their output."""
 
     def test_text(self) -> None:
         """An edit, and what moves."""
@@ -68,7 +68,7 @@ class Words(Case):
                 main(["mend", *LINE, option])
 
     def test_interrupted(self) -> None:
-        """What is known is told and saved, and the status is that of Ctrl-C."""
+        """The result so far is printed and saved, and the status is that of Ctrl-C."""
         folder = self.folder / "saved"
 
         def interrupted(*given: object, **words: object) -> None:
@@ -80,7 +80,7 @@ class Words(Case):
         self.assertEqual((status, "The timetable costs" in told, (folder / "times").exists()), (130, True, True))
 
     def test_in_the_shell(self) -> None:
-        """Proposed, and taken as what a search found is."""
+        """Proposed, and taken like the result of a search."""
         given = "mend 5\ntake\ntime 1 9\ntime 2 9\nmend 20\ntake\nviolations\nmend x\n"
         none = "no search of this shell has found a timetable\n"
         status, told, error = called("shell", *TWO, given=f"take\n{given}")

@@ -1,4 +1,4 @@
-"""Networks as whole-number programs: solvers of others come to the program's cost, and what they write is read back."""
+"""Networks as integer programs: other solvers find the program's cost, and their output is read back."""
 
 from __future__ import annotations
 
@@ -18,7 +18,7 @@ from tests.common import PATIENCE, PROGRAM, Case, run_words
 
 NETWORKS = 20
 LIMIT = "pespbench.models.basis.MOST_WAYS"
-# How each solver is given a model, and writes what it finds.
+# How each solver receives a model, and writes its result.
 SOLVERS: Dict[str, Callable[[Path, Path], List[str]]] = {
     "cbc": lambda model, sol: ["cbc", str(model), "solve", "solution", str(sol), "quit"],
     "glpsol": lambda model, sol: ["glpsol", "--lp" if model.suffix == ".lp" else "--freemps", str(model), "-o", str(sol)],
@@ -45,7 +45,7 @@ def drawn(draw: random.Random) -> Network:
 
 
 class Solved(Case):
-    """Drawn networks over each solver that is here, by both formulations, in both formats."""
+    """Random networks with each installed solver, in both formulations and both formats."""
 
     def test_drawn_networks(self) -> None:
         solvers = list(filter(shutil.which, SOLVERS))
@@ -53,7 +53,7 @@ class Solved(Case):
             self.skipTest("neither cbc nor glpsol is here")
         for seed in range(NETWORKS // PATIENCE):
             network = drawn(random.Random(seed))
-            # Of some, as of large ones, no narrow cycles are looked for.
+            # For some, like for large ones, no narrow cycles are computed.
             with Bench.from_script(network.text(), program=PROGRAM) as bench, mock.patch(LIMIT, MOST_WAYS if seed % 4 else 0):
                 best = bench.optimum()
                 for place, (by, solver) in enumerate(product(FORMULATIONS, solvers)):
@@ -61,14 +61,14 @@ class Solved(Case):
                         self.check(bench, best, self.found(solver, network, by, "lp" if (seed + place) % 2 else "mps"))
 
     def check(self, bench: Bench, best: Union[Optimum, Infeasible], times: Optional[Dict[int, int]]) -> None:
-        """A solver's timetable costs what the program's does and is met, or there is none."""
+        """A solver's timetable costs the same as the program's and meets everything, or there is none."""
         self.assertEqual(times is None, isinstance(best, Infeasible))
         if times is not None:
             bench.set_times(times)
             self.assertEqual((bench.cost(), len(bench.violations())), (best.cost, 0))
 
     def found(self, solver: str, network: Network, by: str, form: str) -> Optional[Dict[int, int]]:
-        """The timetable that a solver finds, or None where it finds none."""
+        """The timetable of the solver, or None if it finds none."""
         model, solution = self.folder / f"model.{form}", self.folder / "solution"
         written = FORMULATIONS[by].model(network)
         model.write_text(written.lp() if form == "lp" else written.mps())
@@ -82,7 +82,7 @@ class Solved(Case):
 
 
 CYCLES = {"y1": 1.0, "y2": 2.0, "z0": 1.0}
-# The two trains by cycles, as each solver writes what it found.
+# The two trains by cycles, as each solver writes its solution.
 WRITTEN = {
     "cbc": "Optimal - objective value 4.00000000\n      0 y1        1        1\n      1 y2    2    0\n      2 z0     1     10\n",
     "HiGHS": "Model status\nOptimal\n\n# Primal solution values\nFeasible\nObjective 4\n# Columns 3\ny1 1\ny2 2\nz0 1\n"
@@ -104,7 +104,7 @@ NOTHING = [
 
 
 class Files(Case):
-    """What solvers write, and what is none of it."""
+    """Solvers' outputs, and other texts."""
 
     def setUp(self) -> None:
         super().setUp()

@@ -1,4 +1,4 @@
-"""Many times set in one call, and one by one: what is told, refused and taken back."""
+"""Many times set in one call, and one by one: results, refusals and undo."""
 
 from __future__ import annotations
 
@@ -18,7 +18,7 @@ def cost_of(bench: Bench) -> int:
 
 @over_both
 class Moves(Case):
-    """`moves`, and what it is the same as."""
+    """`moves`, and equivalent calls."""
 
     def drawn_moves(self, seed: int, count: int, events: int = 12) -> List[Tuple[int, int]]:
         draw = random.Random(seed)
@@ -51,7 +51,7 @@ class Moves(Case):
             self.assertEqual(len(bench.journal), 300 + 12)
 
     def test_refusals(self) -> None:
-        """Each stands in its place, and the rest goes on; the last is one of the cost, after a move that is accepted."""
+        """Each is in its place, and the others are made; the last is one of the cost, after an accepted move."""
         bench = self.two_trains()
         came = bench.moves([(1, 0), (7, 0), (2, 10), (-1, 0), (2, 4), (2, 99), (2, 3)])
         self.assertEqual([each.number for each in came if isinstance(each, Refused)], [11, 2, 4, 4])
@@ -72,7 +72,7 @@ class Moves(Case):
         self.assertEqual(bench.times, {1: 4})
 
     def test_one_by_one(self) -> None:
-        """What is no plain number goes the way of all lines, and so does what is refused."""
+        """Values that are not plain integers are sent as lines, and refusals too."""
         bench = self.two_trains()
         bench.time(1, 0)
         bench.time(True, 0)
@@ -90,7 +90,7 @@ class Moves(Case):
         self.assertEqual((told.exception.number, told.exception.event, str(told.exception)), (11, 1, "refused 11 event 1 has no time"))
 
     def test_after_the_end(self) -> None:
-        """In a session that is opened anew."""
+        """In a reopened session."""
         bench = self.two_trains(times=EXAMPLES / "two-trains/times")
         for _ in range(2):
             bench._session.drop()

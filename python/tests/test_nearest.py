@@ -1,4 +1,4 @@
-"""The nearest timetable: against all timetables of small networks, and nothing is changed by looking for it."""
+"""The nearest timetable: compared with all timetables of small networks, without changes to the bench."""
 
 from __future__ import annotations
 
@@ -22,7 +22,7 @@ Most = Union[None, int, Dict[int, int]]
 
 
 def opened(case: Case, seed: int) -> Tuple[Bench, random.Random]:
-    """A drawn network."""
+    """A random network."""
     draw = random.Random(seed)
     period = draw.choice([5, 6, 7])
     bench = Bench.from_script("\n".join(small_script(draw, period)), period=period, **case.how)
@@ -32,10 +32,10 @@ def opened(case: Case, seed: int) -> Tuple[Bench, random.Random]:
 
 @over_both
 class Equal(Case):
-    """Over drawn networks."""
+    """On random networks."""
 
     def test_nearest(self) -> None:
-        """The fewest minutes, and of those the least cost, with all that can be asked for."""
+        """The fewest minutes, and of those the least cost, with all options."""
         for seed in range(max(3, 60 // PATIENCE)):
             bench, draw = opened(self, seed)
             events, period = bench.network.events, bench.period
@@ -61,7 +61,7 @@ class Equal(Case):
         return min(found, default=(None, None))
 
     def check(self, bench: Bench, near: Near, times: Timetable) -> None:
-        """What is told of the timetable is so."""
+        """The reported values of the timetable are right."""
         if near.times:
             with bench.trial():
                 bench.take(near)
@@ -71,7 +71,7 @@ class Equal(Case):
             self.assertTrue(all(-bench.period < 2 * move <= bench.period for move in near.moves.values()))
 
     def test_mended(self) -> None:
-        """The fewest minutes as the greatest move, then in all, then the cost."""
+        """The smallest greatest move, then the fewest minutes, then the cost."""
         for seed in range(300, 300 + max(2, 10 // PATIENCE)):
             bench, draw = opened(self, seed)
             period = bench.period
@@ -87,7 +87,7 @@ class Equal(Case):
             bench.close()
 
     def test_great_costs(self) -> None:
-        """Where a minute cannot cost more than any timetable, moves come first all the same."""
+        """If a minute cannot cost more than any timetable, moves still come first."""
         bench = Bench.from_script("add event 1\nadd event 2\nadd activity 1 1 2 0 9 1000000000\n", period=10, **self.how)
         self.addCleanup(bench.close)
         self.assertFalse(WithMoves(bench.network, Wish.of(bench.network, {}, {}, None, {})).is_exact)
@@ -112,7 +112,7 @@ class Equal(Case):
         self.assertRaisesRegex(WrongWords, "too large", WithMoves, large, Wish.of(large, dict.fromkeys(range(15_000), 0), {}, None, {}))
 
     def test_as_it_is(self) -> None:
-        """Times that meet everything are taken without a search, and without times it is the cheapest timetable."""
+        """Times that meet everything are returned without a search, and without times it is the cheapest timetable."""
         bench = self.two_trains()
         with mock.patch("pespbench.nearest.Search", side_effect=RuntimeError):
             self.assertEqual(bench.near({1: 0, 2: 5}).found(), Near({1: 0, 2: 5}, {}, 0, 5, 0, True))
@@ -124,7 +124,7 @@ class Equal(Case):
 
 
 class Unchanged(Case):
-    """What ends it, and what it does not believe."""
+    """Its ends, and results that it does not accept."""
 
     def large(self) -> Bench:
         """A network on which a search does not end soon."""
@@ -158,7 +158,7 @@ class Unchanged(Case):
         self.assertEqual(bench.undo(), ["fix 1 3"])
 
     def test_interrupt(self) -> None:
-        """What was found until Ctrl-C is there, and the bench has its program still."""
+        """The result until Ctrl-C is kept, and the bench still has its program."""
         bench = self.large()
         before, nearest, transport = state_of(bench), bench.near(seconds=600, nodes=10), bench._session._transport
         steps: List[Near] = []
@@ -169,7 +169,7 @@ class Unchanged(Case):
         self.assertEqual(bench.undo()[0].split()[0], "time")
 
     def test_a_timetable_that_violates(self) -> None:
-        """Is none, whatever the engine says."""
+        """It is rejected, whatever the engine says."""
         bench = self.two_trains()
         before = state_of(bench)
         with mock.patch.object(bench, "violations", return_value=Violations((1,), ())):

@@ -1,4 +1,4 @@
-"""The notebook of examples/: its cells, done one after the other without Jupyter, tell what stands below them."""
+"""The notebook of examples/: its cells, run one after the other without Jupyter, have the output below them."""
 
 from __future__ import annotations
 
@@ -15,12 +15,12 @@ from unittest import mock
 from tests.common import EXAMPLES, PROGRAM, TOP, Case
 
 NOTEBOOK = EXAMPLES / "notebook.ipynb"
-# What is another one in each run, and a picture, which is drawn where there is Node.
+# Values that differ in each run, and a picture, which is drawn if there is Node.
 VARYING = re.compile("(?<=<td>seconds</td><td>)[0-9.]+|<img[^>]*>")
 
 
 def outputs_of(source: str, names: Dict[str, Any]) -> List[Any]:
-    """What a notebook keeps below a cell: what it printed, and its last value, as text and as HTML where it has that."""
+    """The output below a cell of a notebook: what it printed, and its last value, as text and as HTML if it has that."""
     tree = ast.parse(source)
     last = tree.body.pop() if isinstance(tree.body[-1], ast.Expr) else None
     with contextlib.redirect_stdout(io.StringIO()) as told:
@@ -34,7 +34,7 @@ def outputs_of(source: str, names: Dict[str, Any]) -> List[Any]:
 
 
 class Notebook(Case):
-    """As a reader does it, in the top folder of the repository."""
+    """Like a reader, in the top folder of the repository."""
 
     def test_cells(self) -> None:
         here = os.getcwd()

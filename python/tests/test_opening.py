@@ -1,4 +1,4 @@
-"""The options that say which network is opened: each is taken beside a folder too, or refused by name."""
+"""The options of a network: each is accepted beside a folder too, or refused by name."""
 
 from __future__ import annotations
 
@@ -31,7 +31,7 @@ class Folder(Case):
         return str(path)
 
     def typed(self, *words: str, status: int = 0, given: str = "") -> str:
-        """What a command line prints, to whichever stream, where it ends with a status."""
+        """The output of a command line that ends with a status, on either stream."""
         stdin = io.StringIO(given)
         with contextlib.redirect_stdout(io.StringIO()) as told, contextlib.redirect_stderr(told):
             with mock.patch("sys.stdin", stdin):
@@ -56,12 +56,12 @@ class Beside(Folder):
         self.assertIn("refused 4 time 7 is out of range", self.typed("shell", str(self.network), "--period", "7", status=1))
 
     def test_times(self) -> None:
-        """They are those of all events: one that is left out has no time, though the folder has one."""
+        """They are those of all events: an omitted one has no time, even if the folder has one."""
         times = self.file("times", "1; 2\n3; 61\n")
         self.assertEqual(self.shell("times\n", "--times", times), "1 2  M to Cranley leaves Ashford\n3 1  event 3\n")
 
     def test_fixed(self) -> None:
-        """It holds what it names in place of the folder's own files, which hold the others."""
+        """It replaces the folder's own file; the others are the folder's."""
         told = self.shell("dump\n", "--fixed", self.file("fixed", "1; 8\n"))
         self.assertIn("fix 1 8\nwindow 2 7 9\n", told)
         told = self.shell("dump\n", "--fixed", self.file("fixed", "2; 8\n"))
@@ -90,7 +90,7 @@ class Beside(Folder):
 
 
 class Hard(Folder):
-    """Kinds that are not to be changed."""
+    """Kinds that must not change."""
 
     def test_unknown_kinds(self) -> None:
         told = self.typed("why", str(self.network), "--hard", "run, dwel,hedway", status=2)

@@ -1,4 +1,4 @@
-"""What minutes cost: equal to a search with each of them, and nothing is changed by asking, whatever ends it."""
+"""What minutes cost: equal to a search with each of them, and nothing changes, whatever ends it."""
 
 from __future__ import annotations
 
@@ -22,16 +22,16 @@ Costs = Dict[int, Optional[int]]
 
 
 def state_of(bench: Bench) -> Tuple[Network, Dict[int, int], List[str]]:
-    """What a question leaves as it was."""
+    """The state that a question must not change."""
     return bench.network.copy(), bench.times, bench.journal
 
 
 @over_both
 class Equal(Case):
-    """Over drawn networks."""
+    """On random networks."""
 
     def small(self, seed: int) -> Tuple[Bench, random.Random]:
-        """A network with some times, and edits that can be taken back."""
+        """A network with some times, and edits that can be undone."""
         draw = random.Random(seed)
         period = draw.choice([5, 6, 7])
         bench = Bench.from_script("\n".join(small_script(draw, period)), period=period, **self.how)
@@ -40,7 +40,7 @@ class Equal(Case):
         return bench, draw
 
     def searched(self, bench: Bench, lines: Dict[int, str]) -> Costs:
-        """What an optimum with each line costs."""
+        """The cost of an optimum with each line."""
         costs: Costs = {}
         for value, line in lines.items():
             with bench.trial():
@@ -49,7 +49,7 @@ class Equal(Case):
         return costs
 
     def test_events(self) -> None:
-        """As fixed there, where the window admits it."""
+        """As if fixed there, if the window admits it."""
         for seed in range(max(2, 12 // PATIENCE)):
             bench, draw = self.small(seed)
             event, before = draw.choice(bench.network.events), state_of(bench)
@@ -72,7 +72,7 @@ class Equal(Case):
             self.assertEqual((len(bench.violations()), bench.cost(), value), (0, price.cost, price.value))
 
     def test_activities(self) -> None:
-        """As all timetables have it, also where a span is longer than a period."""
+        """By all timetables, also if a span is longer than a period."""
         for seed in range(100, 100 + max(2, 12 // PATIENCE)):
             bench, draw = self.small(seed)
             activity, before = draw.choice(list(bench.network.activities.values())), state_of(bench)
@@ -91,7 +91,7 @@ class Equal(Case):
                 self.check(bench, price, taken, activity.lower + activity.slack(bench.period, taken))
 
     def test_within(self) -> None:
-        """Up to a cost they are the same, and above it a bound says so."""
+        """Up to a cost they are the same, and above it a bound reports that."""
         for seed in range(200, 200 + max(2, 12 // PATIENCE)):
             bench, draw = self.small(seed)
             event, activity, cap = draw.choice(bench.network.events), draw.choice(list(bench.network.activities)), draw.randrange(12)
@@ -104,7 +104,7 @@ class Equal(Case):
                         self.assertTrue(other.is_above(cap) and (other.cost is None or one.cost is not None and other.cost >= one.cost), (one, other))
 
     def test_all(self) -> None:
-        """Those of each event, over threads, and over processes of this machine."""
+        """Those of each event, with threads, and with processes of this machine."""
         bench, _ = self.small(7)
         wanted = {event: bench.prices(event=event).found() for event in bench.network.events}
         came: Dict[int, Dict[int, Price]] = {}
@@ -128,7 +128,7 @@ class Equal(Case):
         self.assertEqual(bench.prices(event=Whole(1), within=Whole(9)).found()[0].cost, 4)  # type: ignore[arg-type]
 
     def test_a_changed_network(self) -> None:
-        """Times may change between two steps, the network may not; and no journal is needed."""
+        """Times may change between two steps, but not the network; and no journal is needed."""
         bench = self.two_trains(journal="none")
         prices = bench.prices(event=1)
         next(prices)
@@ -139,7 +139,7 @@ class Equal(Case):
         self.assertRaises(ValueError, prices.timetable, 99)
 
 
-# An event at 0, 2, 3 or 7, of which a search knows more with more nodes; one search of the first start hangs.
+# An event at 0, 2, 3 or 7, on which a search finds more with more nodes; one search of the first program hangs.
 PRICES = r"""
 known = answer.__dict__.setdefault("known", {})
 words = line.split()
@@ -189,7 +189,7 @@ class OverPipes(Case):
         self.assertTrue(all(price.is_proved for price in found.values()))
 
     def test_the_order(self) -> None:
-        """What the domain rules out is told at once, then from the present time on, and then the cheapest first."""
+        """Values that the domain excludes come at once, then those from the present time on, and then the cheapest first."""
         told: List[Price] = []
         bench = self.opened()
         before, prices = state_of(bench), bench.prices(event=1, watch=told.append)
@@ -205,7 +205,7 @@ class OverPipes(Case):
         self.assertEqual(prices.timetable(7), {1: 7, 2: 1})
 
     def test_the_caller_stops(self) -> None:
-        """Nothing more is asked, the last own change is taken back by `undo`, and it can be gone on with."""
+        """No more questions follow, `undo` reverts the last own change, and the iteration can resume."""
         bench = self.opened()
         before, prices = state_of(bench), bench.prices(event=1)
         for price in prices:
@@ -222,7 +222,7 @@ class OverPipes(Case):
         self.assertEqual((state_of(bench), (self.folder / "stand-in.starts").read_text()), (before, "s"))
 
     def test_interrupt(self) -> None:
-        """At Ctrl-C what is known stays known, and all is as it was."""
+        """At Ctrl-C the known prices are kept, and nothing has changed."""
         bench = self.opened(hangs=True)
         before, prices = state_of(bench), bench.prices(event=1)
         interrupt_when(lambda: "7 4000" in self.tries())
@@ -253,7 +253,7 @@ class OverPipes(Case):
 
 
 class ByCall(Case):
-    """Over a library that has the calls for prices, of a stand-in."""
+    """A stand-in of a library that has the calls for prices."""
 
     STATES = {**dict.fromkeys(steps_to(1_000), (0, 0, 3)), 4_000: (1, 8, 4), 16_000: (2, 7, 7)}
 
@@ -274,7 +274,7 @@ class ByCall(Case):
         return bench
 
     def test_prices(self) -> None:
-        """Nothing is edited, each turn tells a bound, and the timetable is searched for where it is asked for."""
+        """There are no edits, each turn reports a bound, and the timetable is searched for on request."""
         bench = self.opened()
         del self.library.lines[:]
         prices = bench.prices(event=1)
@@ -295,7 +295,7 @@ class ByCall(Case):
             self.assertEqual((prices.found()[3], prices.is_ended, b"pesp_price 1 3 1000" in self.library.lines), (Price(3, 7, 7, True), True, False))
 
     def test_tensions(self) -> None:
-        """Each is asked for within the period, and the activity's own cost is added."""
+        """Each is requested within the period, and the activity's own cost is added."""
         bench = self.opened()
         bench.add_activity(Activity(2, 1, 1, 8, 25, 2))
         del self.library.lines[:]
@@ -319,7 +319,7 @@ class ByCall(Case):
 
 @over_both
 class TryMove(Case):
-    """What a move would do."""
+    """The effect of a move."""
 
     def test_moves(self) -> None:
         with self.drawn(4, 12, 30) as bench:
@@ -355,7 +355,7 @@ class TryMove(Case):
 
 @over_both
 class Take(Case):
-    """What a search found becomes the working timetable."""
+    """The result of a search becomes the working timetable."""
 
     def test_take(self) -> None:
         bench = self.two_trains()
@@ -374,7 +374,7 @@ class Take(Case):
         self.assertEqual(state_of(bench), before)
 
     def test_a_large_one(self) -> None:
-        """A price of a network on which a search takes a while: what is known in time is told."""
+        """A price of a network on which a search takes a while: the result in time is reported."""
         with Bench.from_script("\n".join(drawn_script(11, 60, 150)), **self.how) as bench:
             before = state_of(bench)
             prices = bench.prices(event=0, seconds=1, nodes=10)

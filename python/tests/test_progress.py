@@ -1,4 +1,4 @@
-"""A search that tells what it has as it goes: its steps, its end, and what it leaves as it was."""
+"""A search that reports its progress: its steps, its end, and the state that it must not change."""
 
 from __future__ import annotations
 
@@ -20,7 +20,7 @@ from tests.stand_in_library import MEMORY, Answer, StandIn, usual
 
 
 class Script:
-    """A session whose steps are known: how many seconds of a clock each takes, and what it comes to."""
+    """A session whose steps are known: the seconds of a clock of each, and its result."""
 
     def __init__(self, steps: Sequence[Tuple[float, Reached]]) -> None:
         self.work = Work(Network(60))
@@ -46,7 +46,7 @@ def stopped(cost: Optional[int], bound: Optional[int] = None, goes_on: bool = Fa
 
 
 class Steps(unittest.TestCase):
-    """When a step is begun, and what is told after it."""
+    """When a step starts, and what is reported after it."""
 
     def over(self, *steps: Tuple[float, Reached]) -> Script:
         script = Script(steps)
@@ -59,7 +59,7 @@ class Steps(unittest.TestCase):
         return [(each.cost, each.lower_bound, each.is_ended) for each in search]
 
     def test_doubled(self) -> None:
-        """Each step has twice the nodes of the one before; none is begun where less time is left than the last one took."""
+        """Each step has twice the nodes of the one before; none starts if less time is left than the last one took."""
         script = self.over((1, stopped(None)), (2, stopped(9)), (4, stopped(9)), (8, stopped(9)))
         self.assertEqual(self.told(script.search(11.5)), [(None, None, False), (9, None, False), (9, None, False), (9, None, True)])
         self.assertEqual((script.asked, script.now), ([1_000, 2_000, 4_000, 8_000], 111.5))
@@ -68,14 +68,14 @@ class Steps(unittest.TestCase):
         self.assertEqual((script.asked, script.now), ([1_000, 2_000, 4_000], 107))
 
     def test_bound_of_what_was_found(self) -> None:
-        """What a search came to at its end tells the bound that was told on the way; the optimum is its own."""
+        """The result at the end has the earlier bound; the optimum has its own."""
         found = self.over((1, stopped(9, 4)), (2, stopped(None, 3))).search(3).found()
         self.assertEqual((found, found.cost, found.lower_bound, found.is_proved), (Stopped(9, {1: 9}), 9, 4, False))
         found = self.over((1, stopped(None, 3)), (1, Reached(Optimum(5, {1: 5})))).search(9).found()
         self.assertEqual((found.lower_bound, found.is_proved), (5, True))
 
     def test_even(self) -> None:
-        """A step that goes on takes about a quarter of a second: it is doubled where it was much quicker, halved where slower."""
+        """A resumed step takes about a quarter of a second: it is doubled if it was much quicker, halved if slower."""
         seconds = [0.01, 0.12, 0.13, 0.5, 0.6, 0.01, 0.3]
         script = self.over(*((took, stopped(9, place, True)) for place, took in enumerate(seconds, 1)))
         self.assertEqual(self.told(script.search(1.6)), [(9, place, place == 7) for place in range(1, 8)])
@@ -88,13 +88,13 @@ class Steps(unittest.TestCase):
         self.assertEqual(script.asked, [10**12, 10**12])
 
     def test_even_with_nothing_new(self) -> None:
-        """It stays so long where it tells nothing new, as on a network that is hard."""
+        """It stays that long if it finds nothing new, as on a hard network."""
         script = self.over(*((0.25, stopped(9, 1, True)) for _ in range(40)))
         self.assertEqual(self.told(script.search(10)), [(9, 1, False)] * 39 + [(9, 1, True)])
         self.assertEqual(script.asked, [1_000] * 40)
 
     def test_anew(self) -> None:
-        """One that begins anew is doubled however slow it was, and whatever is new; one that goes on after it is begun as ever."""
+        """One that restarts is doubled however slow it was, and whatever is new; one that resumes after it starts as usual."""
         script = self.over((0.01, stopped(9, 1)), (0.3, stopped(8, 2)), (0.6, stopped(8, 2)), (1.2, stopped(8, 2)))
         self.assertEqual(self.told(script.search(3)), [(9, 1, False), (8, 2, False), (8, 2, False), (8, 2, True)])
         self.assertEqual(script.asked, [1_000, 2_000, 4_000, 8_000])
@@ -103,7 +103,7 @@ class Steps(unittest.TestCase):
         self.assertEqual(script.asked, [1_000, 2_000, 2_000])
 
     def test_even_to_the_end(self) -> None:
-        """A step that goes on is begun where any time is left, and is let come to its end."""
+        """A resumed step starts if any time is left, and is completed."""
         script = self.over((0.25, stopped(None, 1, True)), (0.25, stopped(None, 2, True)), (0.25, stopped(9, 3, True)))
         self.assertEqual(self.told(script.search(0.51)), [(None, 1, False), (None, 2, False), (9, 3, True)])
         self.assertEqual((script.asked, script.now), ([1_000] * 3, 100.75))
@@ -136,7 +136,7 @@ class Steps(unittest.TestCase):
         self.assertEqual((none.cost, none.times, none.gap), (None, None, None))
 
     def test_ends(self) -> None:
-        """It goes on at a gap of 0, and ends where all is known."""
+        """It continues at a gap of 0, and ends once all is known."""
         found: List[Found] = [Optimum(7, {1: 7}), Infeasible()]
         for each in found:
             script = self.over((1, stopped(7, 7)), (1, Reached(each, 0)))
@@ -150,7 +150,7 @@ class Steps(unittest.TestCase):
         self.assertEqual(script.asked, [10**12])
 
     def test_another_network(self) -> None:
-        """A step over another network than at first is none of the search; times are none of the network."""
+        """A step on another network is not part of the search; times do not belong to the network."""
         script = self.over((1, stopped(None)), (1, stopped(None)))
         search = script.search(100)
         next(search)
@@ -161,7 +161,7 @@ class Steps(unittest.TestCase):
         self.assertEqual(list(search), [])
 
 
-# A program whose first searches come to timetables that get cheaper; what is asked goes to a file beside it.
+# A program whose first searches find cheaper and cheaper timetables; its lines are recorded in a file beside it.
 GETS_CHEAPER = r"""
 if line == "dump":
     write(b"# period 60 lines 3\nadd event 1\nadd event 2\nadd activity 1 1 2 3 30 1\n")
@@ -181,7 +181,7 @@ else:
 
 
 def interrupt_when(is_asked: Callable[[], bool]) -> None:
-    """Ctrl-C for this process, from another thread, as soon as something is asked."""
+    """Ctrl-C for this process, from another thread, as soon as a line is sent."""
 
     def wait() -> None:
         until = time.monotonic() + LONG
@@ -193,7 +193,7 @@ def interrupt_when(is_asked: Callable[[], bool]) -> None:
 
 
 class OverPipes(Case):
-    """Over a program that answers `try`."""
+    """With a program that answers `try`."""
 
     def opened(self, last: str = "") -> Bench:
         bench = Bench.open(None, program=self.stand_in(GETS_CHEAPER.replace("LAST", repr(last))))
@@ -206,7 +206,7 @@ class OverPipes(Case):
         return [int(word) for word in path.read_text().split()] if path.exists() else []
 
     def test_steps(self) -> None:
-        """The cost is told as it goes, and a bound at the end."""
+        """The cost is reported during the search, and a bound at the end."""
         bench = self.opened()
         told = list(bench.search(60))
         self.assertEqual([each.cost for each in told], [19, 18, 16, 12])
@@ -216,14 +216,14 @@ class OverPipes(Case):
         self.assertEqual(sorted(each.seconds for each in told), [each.seconds for each in told])
 
     def test_callback(self) -> None:
-        """What is called is told the same."""
+        """The callback receives the same."""
         told: List[Progress] = []
         bench = self.opened()
         self.assertEqual(list(bench.search(60, nodes=500, watch=told.append)), told)
         self.assertEqual((self.tries(), bench.search(60, watch=told.append).found()), ([500, 1_000, 2_000, 4_000, 8_000], told[-1].found))
 
     def test_the_caller_stops(self) -> None:
-        """Nothing more is asked, and the bench goes on over the same program."""
+        """No more lines follow, and the bench continues with the same program."""
         bench = self.opened("try 4000")
         for progress in bench.search(60):
             if progress.cost == 18:
@@ -240,7 +240,7 @@ class OverPipes(Case):
         self.assertEqual([(each.cost, each.is_ended) for each in told], [(19, False), (18, False), (18, True)])
 
     def test_interrupt(self) -> None:
-        """What was found until Ctrl-C is there; the search is over, and the bench is as it was."""
+        """The result until Ctrl-C is kept; the search is over, and the bench has not changed."""
         bench = self.opened("try 4000")
         before = bench.journal, bench.times, bench.network
         search = bench.search(60)
@@ -268,18 +268,18 @@ def over(case: Case, library: StandIn) -> Bench:
 
 
 def after(table: Dict[int, Any], nodes: int) -> Any:
-    """What a table has for the most nodes that are no more than these."""
+    """The entry of a table for the most nodes that are no more than these."""
     return table[max(least for least in table if least <= nodes)]
 
 
-# A program that accepts all edits, and knows of no timetable.
+# A program that accepts all edits, and finds no timetable.
 BESIDE = """
 write({"dump": EMPTY, "try 1000": b"infeasible\\n"}.get(line, b"ok\\n"))
 """
 
 
 class OverCalls(Case):
-    """Over a stand-in of the library that has the call for searches."""
+    """With a stand-in of a library that has `pesp_search`."""
 
     REPLIES = {1_000: b"stopped none\n", 2_000: b"stopped 9 2\n4 1\n7 3\n", 4_000: b"stopped 8 2\n4 1\n7 2\n", 8_000: b"optimum 6 2\n4 0\n7 5\n"}
     BOUNDS = {1_000: 2, 2_000: 1, 4_000: 5, 8_000: 6}
@@ -287,7 +287,7 @@ class OverCalls(Case):
     SIZES = (1_000, 2_000, 4_000, 8_000)
 
     def setUp(self) -> None:
-        """By a clock that stands still each call is quick."""
+        """By a stopped clock each call is quick."""
         super().setUp()
         now = time.monotonic()
         clock = mock.patch("pespbench.searching.clock", mock.Mock(monotonic=lambda: now))
@@ -301,7 +301,7 @@ class OverCalls(Case):
         return bench
 
     def library(self, others: Optional[Dict[bytes, Callable[[], Answer]]] = None, bound: Any = partial(after, BOUNDS)) -> StandIn:
-        """Answers searches by the tables above, but for other lines."""
+        """Answers searches by the tables above, except for other lines."""
 
         def answer(line: bytes) -> Answer:
             if line.startswith(b"try ") and line not in (others or {}):
@@ -315,7 +315,7 @@ class OverCalls(Case):
         return [(each.cost, each.lower_bound) for each in bench.search(60)]
 
     def test_bounds_over_the_program(self) -> None:
-        """The library beside the program searches in its place, and where there is none it is said where it was looked for."""
+        """The library beside the program searches instead of it, and if there is none the exception names the places searched."""
         library = self.library()
         over(self, library)
         program = self.stand_in(BESIDE)
@@ -330,7 +330,7 @@ class OverCalls(Case):
             self.assertEqual((bench.engine.name, bench.times, bench.search(60).found()), ("program", {4: 3}, Infeasible()))
 
     def test_bounds(self) -> None:
-        """Costs and bounds are told as it goes, by calls alone."""
+        """Costs and bounds are reported during the search, only by calls."""
         library = self.library()
         bench = self.opened(library)
         told = list(bench.search(60))
@@ -341,7 +341,7 @@ class OverCalls(Case):
         self.assertEqual(bench.journal, ["add event 7", "add event 4"])
 
     def test_asked_on(self) -> None:
-        """Another search goes on where one before it stopped, beside times that are set and questions; an edit begins anew."""
+        """Another search resumes the one before it, beside times that are set and queries; an edit restarts it."""
         library = self.library()
         bench = self.opened(library)
         first = bench.search(60)
@@ -356,8 +356,8 @@ class OverCalls(Case):
         self.assertEqual((next(bench.search(60)).cost, library.nodes, library.opened), (None, 1_000, 1))
 
     def test_sizes(self) -> None:
-        """A call takes about a quarter of a second, however many nodes a second a library goes through, and it is asked often,
-        also where none tells anything new."""
+        """A call takes about a quarter of a second, however many nodes a second a library visits, and there are many calls,
+        also if none finds anything new."""
         for rate, nodes, least, most, last in [(4_000, 1, 1, 512, 512), (4_000, 10**6, 1_953, 10**6, 1_953), (10, 1_000, 3, 1_000, 3)]:
             now = [time.monotonic()]
             slow = Slow(now, rate)
@@ -368,7 +368,7 @@ class OverCalls(Case):
                 self.assertGreater(sizes.count(last), 100)
 
     def test_sizes_anew(self) -> None:
-        """Where the library says that it does not go on, each call has twice the nodes of the one before."""
+        """If the library reports that it cannot resume, each call has twice the nodes of the one before."""
         now = [time.monotonic()]
         slow = Slow(now, 4_000, goes_on=False)
         with mock.patch("pespbench.searching.clock", mock.Mock(monotonic=lambda: now[0])):
@@ -381,13 +381,13 @@ class OverCalls(Case):
         self.assertEqual((first.found, last.found, last.is_ended, last.cost, last.gap), (Stopped(), Infeasible(), True, None, None))
 
     def test_an_older_library(self) -> None:
-        """Without the call a search goes by lines, and is told no bound before the end."""
+        """Without the call a search uses lines, and has no bound before the end."""
         library = self.library(bound=None)
         self.assertEqual(self.told(self.opened(library)), [(None, None), (9, None), (8, None), (6, 6)])
         self.assertEqual(list(library.lines)[-4:], [b"try %d" % nodes for nodes in self.SIZES])
 
     def test_no_memory(self) -> None:
-        """It is told as of any line; what was found until then is there."""
+        """It is reported like for any line; the result until then is kept."""
         bench = self.opened(self.library({b"try 7000": lambda: MEMORY}))
         search = bench.search(60)
         with self.assertRaises(Ended) as told:
@@ -395,7 +395,7 @@ class OverCalls(Case):
         self.assertEqual((str(told.exception), search.progress.cost, search.progress.lower_bound), ("pespbench: out of memory", 9, 2))
 
     def test_nonsense(self) -> None:
-        """States that cannot be, and other numbers of times."""
+        """Impossible states, and other numbers of times."""
         for state, length in [(4, 0), (2, 1), (1, 3), (0, 2), (3, 2), (2**32 - 1, 2)]:
             library = Wrong(state, length)
             bench = self.opened(library)
@@ -410,7 +410,7 @@ def asked(library: StandIn) -> List[int]:
 
 
 class Slow(StandIn):
-    """Goes through so many nodes in a second of a clock, and finds nothing."""
+    """Visits this many nodes in a second of a clock, and finds nothing."""
 
     def __init__(self, clock: List[float], rate: int, goes_on: bool = True) -> None:
         super().__init__(lambda line: usual(line, {b"violations": lambda: b"violations 1\nactivity 1\n"}), bound=lambda nodes: 0)
@@ -425,7 +425,7 @@ class Slow(StandIn):
 
 
 class Wrong(StandIn):
-    """Tells a state and a number of times of searches."""
+    """Reports a state and a number of times of searches."""
 
     def __init__(self, state: int, length: int) -> None:
         super().__init__(lambda line: usual(line, {}), bound=lambda nodes: 0)
@@ -437,7 +437,7 @@ class Wrong(StandIn):
 
 
 class GivenUp(Case):
-    """A search in process that does not come back, in a call."""
+    """A search in process that does not return from a call."""
 
     def opened(self) -> Tuple[Bench, StandIn, threading.Event]:
         may_end = threading.Event()
@@ -453,7 +453,7 @@ class GivenUp(Case):
         return bench, library, may_end
 
     def goes_on(self, bench: Bench, library: StandIn, may_end: threading.Event) -> None:
-        """The bench answers in another session; that of the search is closed as soon as it has come to its end."""
+        """The bench answers in another session; that of the search is closed as soon as it has ended."""
         bench.fix(1, 2)
         self.assertEqual((bench.journal, library.opened, library.closed), (["add event 1", "fix 1 2"], 2, 0))
         may_end.set()
@@ -479,10 +479,10 @@ class GivenUp(Case):
 
 @over_both
 class Real(Case):
-    """Over the engines themselves."""
+    """With the engines themselves."""
 
     def test_drawn(self) -> None:
-        """On drawn networks the end is the optimum, what is told never goes back, and nothing has changed."""
+        """On random networks the end is the optimum, reports never get worse, and nothing has changed."""
         draw, ends = random.Random(5), set()
         with self.drawn(5, 6, 10, period=10, room=3) as bench:
             for place in range(80 // PATIENCE):
@@ -498,7 +498,7 @@ class Real(Case):
         self.assertEqual(ends, {Optimum, Infeasible})
 
     def assert_in_order(self, told: List[Progress]) -> None:
-        """Costs and bounds as they come, and the bound below each cost."""
+        """Costs and bounds in their order, and the bound below each cost."""
         costs = [each.cost for each in told if each.cost is not None]
         bounds = [each.lower_bound for each in told if each.lower_bound is not None]
         self.assertEqual((costs, bounds), (sorted(costs, reverse=True), sorted(bounds)))
@@ -507,7 +507,7 @@ class Real(Case):
         self.assertEqual([each.is_ended for each in told], [*[False] * (len(told) - 1), True])
 
     def test_timetables(self) -> None:
-        """Each that is told meets everything, at its cost."""
+        """Each reported timetable meets everything, at its cost."""
         with self.drawn(3, 40, 90) as bench:
             for progress in bench.search(3, nodes=10):
                 if progress.times is not None:
@@ -523,7 +523,7 @@ class Real(Case):
         self.assertEqual((bench.times, bench.undo()), ({1: 0, 2: 5}, ["time 1 0", "time 2 5"]))
 
     def test_small(self) -> None:
-        """A network without events, one that has no timetable, and an edit after both."""
+        """A network without events, one without a timetable, and an edit after both."""
         with Bench.open(None, **self.how) as bench:
             self.assertEqual(bench.search(60).found(), Optimum(0, {}))
             bench.many(["add event 1", "add event 2", "add activity 1 1 2 3 3 1", "add activity 2 2 1 3 3 1"])

@@ -1,4 +1,4 @@
-"""The report: every number in it is that of a reply, and nothing in it is loaded from elsewhere. What it draws is drawn under Node."""
+"""The report: every number in it is that of a reply, and nothing in it is loaded from elsewhere. Node draws it."""
 
 from __future__ import annotations
 
@@ -21,7 +21,7 @@ NO_COMMANDS = mock.Mock(which=lambda name: None)
 
 
 class Content(Case):
-    """What stands in the page is what the program said."""
+    """The contents of the page are the program's replies."""
 
     def setUp(self) -> None:
         super().setUp()
@@ -60,7 +60,7 @@ class Content(Case):
         self.assertEqual([text.count(word) for word in ("<script", "</script", "<!--")], [page_text().count(word) for word in ("<script", "</script", "<!--")])
 
     def test_no_page(self) -> None:
-        """Where the page is not found, or is another one, that is said."""
+        """If the page is missing, or is another one, that is reported."""
         for name, text, told in (("missing", None, "PESPBENCH_PAGE names one"), ("other", "<p>", "no place for a report")):
             path = self.folder / name
             if text is not None:
@@ -75,7 +75,7 @@ class Content(Case):
 
 @unittest.skipUnless(HAS_NODE, NO_NODE)
 class Region(Case):
-    """A report on a region as it is drawn, beside the replies."""
+    """A drawn report on a region, compared with the replies."""
 
     def setUp(self) -> None:
         super().setUp()
@@ -85,7 +85,7 @@ class Region(Case):
         self.page = Page(drawn("report", self.content)).root
 
     def minutes(self, root: Node) -> list[Node]:
-        """The elements that tell the minute of an event."""
+        """The elements with the minute of an event."""
         return [node for node in root.all("data-event") if node.tag in ("td", "tspan") or node.attributes.get("class") == "end"]
 
     def test_times(self) -> None:
@@ -156,7 +156,7 @@ class Region(Case):
         self.assertEqual(shown, {words: f"{number:,}" for words, number in wanted.items()})
 
     def test_places(self) -> None:
-        """Stations lie as a file of places says, and else where they are laid out."""
+        """Stations are at the places of a file, and otherwise laid out."""
         rings = [[(node.attributes["cx"], node.attributes["cy"]) for node in page.all("cx") if "ring" in node.attributes["class"].split()]
                  for page in (self.page, Page(drawn("report", gather(self.bench, "A region"))).root)]  # fmt: skip
         self.assertEqual(len(rings[0]), 15)
@@ -165,10 +165,10 @@ class Region(Case):
 
 @unittest.skipUnless(HAS_NODE, NO_NODE)
 class Others(Case):
-    """Networks that lack what a region has."""
+    """Networks that lack parts of a region."""
 
     def page(self, bench: Bench) -> Node:
-        """The report as it is drawn."""
+        """The drawn report."""
         with bench:
             root = Page(drawn("report", gather(bench, "Two & <trains>"))).root
         self.assertIn("Two & <trains>", root.text)
@@ -186,7 +186,7 @@ class Others(Case):
         self.assertNotIn("What is violated", text)
 
     def test_headlines(self) -> None:
-        """Where the network has no timetable, that is said above all else."""
+        """If the network has no timetable, that is the headline."""
         bench = self.two_trains()
         self.assertEqual(self.headline(bench), "There is no timetable yet.")
         bench.time(1, 0)
@@ -203,7 +203,7 @@ class Others(Case):
         self.assertEqual(self.headline(bench), "No timetable meets everything.")
 
     def headline(self, bench: Bench, found: Found | None = None) -> str:
-        """What is said above the figures of a report, once."""
+        """The remarks above the figures of a report, each once."""
         page = Page(drawn("report", gather(bench, "Two trains", None, found))).root
         said = [node.text for node in page.all("class") if node.attributes["class"] == "headline"]
         self.assertEqual(page.text.count(said[0]) if said else 1, 1)

@@ -1,4 +1,4 @@
-"""What a search keeps: never a dearer timetable than the one that stands, and what was found before it was ended."""
+"""The results that a search keeps: never a dearer timetable than the working one, and the best found before its end."""
 
 from __future__ import annotations
 
@@ -24,7 +24,7 @@ from pespbench.workers import Bar
 from tests.common import EXAMPLES, LONG, PROGRAM, TOP, Case
 from tests.test_command_line import TWO, called
 
-# Two events and an activity of 3 to 30 minutes; the first search comes to a timetable that costs 20, others do not end.
+# Two events and an activity of 3 to 30 minutes; the first search finds a timetable that costs 20, others do not end.
 FINDS_ONE = r"""
 known = answer.__dict__.setdefault("times", {})
 for word in sys.argv if not known else []:
@@ -64,7 +64,7 @@ class Folders(Case):
         self.saved = self.network("saved")
 
     def network(self, name: str, second: int | None = None) -> Path:
-        """A folder with a network, and with a timetable where the second event is at a minute."""
+        """A folder with a network, and with a timetable that has the second event at a minute."""
         folder = self.folder / name
         folder.mkdir()
         (folder / "period").write_text("60\n")
@@ -80,7 +80,7 @@ class Folders(Case):
         return (self.saved / "times").read_text()
 
     def started(self, *words: str, given: bytes = b"") -> "subprocess.Popen[bytes]":
-        """A command that searches without an end."""
+        """A command that searches endlessly."""
         (self.folder / "searching").unlink(missing_ok=True)
         environment, pipe = {**os.environ, "PYTHONPATH": str(TOP / "python")}, subprocess.PIPE
         called = [sys.executable, "-m", "pespbench", *words]
@@ -97,7 +97,7 @@ class Folders(Case):
 
 
 class Kept(Folders):
-    """`search` and what is in the folder afterwards."""
+    """`search` and the contents of the folder afterwards."""
 
     def test_a_dearer_one_is_not_saved(self) -> None:
         """The network's own timetable costs 5, the one that the search finds 20."""
@@ -115,14 +115,14 @@ class Kept(Folders):
         self.assertEqual(self.times(), ROWS.format(4))
 
     def test_a_cheaper_one_is_saved(self) -> None:
-        """Over one that costs 27, over one that does not meet everything, and over none."""
+        """With one that costs 27, with one that does not meet everything, and with none."""
         for second in (30, 34, None):
             (self.saved / "times").write_text(ROWS.format(second) if second else "event; time\n")
             self.assertEqual(self.searched(self.saved)[:2], (0, FOUND))
             self.assertEqual(self.times(), ROWS.format(23))
 
     def test_interrupted(self) -> None:
-        """What was found until Ctrl-C, SIGTERM or SIGHUP is printed and saved."""
+        """The result until Ctrl-C, SIGTERM or SIGHUP is printed and saved."""
         for number in (signal.SIGINT, signal.SIGTERM, signal.SIGHUP):
             (self.saved / "times").unlink(missing_ok=True)
             words = ["search", str(self.saved), "--program", self.program, "--save", str(self.saved)]
@@ -132,7 +132,7 @@ class Kept(Folders):
             self.assertEqual((command.returncode, output.decode(), self.times()), (128 + number, FOUND, ROWS.format(23)))
 
     def test_parts_interrupted(self) -> None:
-        """In parts, too, the timetable that stood is kept, and the folder is as it was."""
+        """In parts, too, the old timetable is kept, and the folder is unchanged."""
         (self.saved / "times").write_text(ROWS.format(8))
         words = ["search", str(self.saved), "--program", self.program, "--save", str(self.saved), "--parts", "--workers", "1"]
         command = self.started(*words)
@@ -142,7 +142,7 @@ class Kept(Folders):
         self.assertEqual(self.times(), ROWS.format(8))
 
     def test_the_program_dies(self) -> None:
-        """What was found is saved, and then it is told why no more was."""
+        """The result is saved, and then the reason of the end is reported."""
         dying = FINDS_ONE.replace("time.sleep(600)", "sys.exit(3)")
         self.program = str(self.stand_in(dying))
         status, output, error = self.searched(self.saved)
@@ -157,10 +157,10 @@ class Kept(Folders):
 
 
 class Standing(Case):
-    """The working timetable is looked at first."""
+    """The working timetable is checked first."""
 
     def test_why(self) -> None:
-        """A network whose timetable meets everything is not undecided, whatever searches come to."""
+        """A network whose timetable meets everything is not undecided, whatever searches return."""
         nothing = FINDS_ONE.replace('line == "try 1000"', 'words[0] == "try"').replace(r"stopped 20 2\n1 0\n2 23\n", r"stopped none\n")
         times = self.folder / "times"
         times.write_text(ROWS.format(8))
@@ -176,7 +176,7 @@ class Standing(Case):
             self.assertEqual((bench.standing(), bench.times), (wanted, times))
 
     def test_parts_begin_with_it(self) -> None:
-        """A part that costs more than the timetable that stands is not searched, and the answer is the same."""
+        """A part that costs more than the working timetable is not searched, and the answer is the same."""
         bench = self.two_trains()
         parts = parts_of(bench.network, 2, 3)
         watch = Watch()
@@ -190,12 +190,12 @@ class Standing(Case):
 
 
 class Refusals(Case):
-    """Times that no search can have, and numbers of workers."""
+    """Invalid times of searches, and numbers of workers."""
 
     TIMES = ["inf", "1e10", "nan", "-1", "x", "1e400"]
 
     def test_in_the_shell(self) -> None:
-        """Each is refused in a line, and the shell goes on."""
+        """Each is refused in a line, and the shell continues."""
         lines = "".join(f"search {each}\n" for each in [*self.TIMES, ""])
         status, output, error = called("shell", *TWO, given=f"{lines}cost\n")
         wanted = "".join(f"a search takes from 0 to 1,000,000 seconds, and not '{each}'\n" for each in [*self.TIMES, ""])
@@ -221,7 +221,7 @@ class Refusals(Case):
             self.assertIn("it is a whole number above 0, and not '-1'", self.refused("search", "--parts", f"{option}=-1"))
 
     def refused(self, subcommand: str, *options: str) -> str:
-        """What is told of words that are wrong."""
+        """The messages on wrong arguments."""
         with contextlib.redirect_stderr(io.StringIO()) as error, self.assertRaises(SystemExit) as ended:
             main([subcommand, *TWO, *options])
         self.assertEqual(ended.exception.code, 2)
@@ -235,7 +235,7 @@ class Refusals(Case):
 
 
 class Shown(Folders):
-    """The line that shows how far a search is."""
+    """The line with the progress of a search."""
 
     def test_at_a_terminal_and_on_a_pipe(self) -> None:
         words = ["search", str(self.saved), "--program", self.program, "--seconds", "1.5"]

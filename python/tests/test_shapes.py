@@ -1,4 +1,4 @@
-"""Least sets, and circles and ways among them, without a program."""
+"""Minimal sets, and circles and paths among them, without a program."""
 
 from __future__ import annotations
 
@@ -15,12 +15,12 @@ from pespbench.why.shrinking import least, settled
 
 
 def members(count: int) -> list[Member]:
-    """So many activities."""
+    """This many activities."""
     return [Member(Of.ACTIVITY, number) for number in range(count)]
 
 
 class Shrinking(unittest.TestCase):
-    """Sets that are infeasible where they have all members of one of some sets."""
+    """A test by which a set is infeasible if it contains one of some given sets."""
 
     def test_drawn_sets(self) -> None:
         draw = random.Random(1)
@@ -58,7 +58,7 @@ class Shrinking(unittest.TestCase):
         self.assertEqual(least([], listed, lambda kept: True), [])
 
     def test_a_test_that_sees_less_in_more(self) -> None:
-        # Only the whole and single members are seen; what can be left out one by one goes.
+        # The test only sees the whole and single members; members that can be omitted one by one are dropped.
         listed = members(3)
         self.assertEqual(settled(listed, lambda kept: len(kept) in (1, 2)), [listed[2]])
 
@@ -76,7 +76,7 @@ class Shrinking(unittest.TestCase):
 
 
 class Shapes(unittest.TestCase):
-    """Circles and ways are found whatever the directions of their activities."""
+    """Circles and paths are found whatever the directions of their activities."""
 
     def shape(self, rows: list[tuple[int, int, int, int]], windows: dict[int, tuple[int, int]]) -> Circle | Way | None:
         """The shape of activities (first, last, lower, upper) and windows (first, length) at period 60."""

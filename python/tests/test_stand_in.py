@@ -1,4 +1,4 @@
-"""The client over programs that die, block, send half lines, or talk nonsense."""
+"""The client with programs that die, block, send incomplete lines, or write nonsense."""
 
 from __future__ import annotations
 
@@ -29,7 +29,7 @@ def before_usual(text: str) -> str:
     return f"{text.strip()}\n{USUAL.strip()}"
 
 
-# Forks while benches are open: by itself, and to start a program, where the benches of other threads are dropped.
+# Forks while benches are open: a plain one, and one to start a program, in which the benches of other threads are dropped.
 FORKS = """
 import gc, os, sys, threading
 from pespbench import Bench
@@ -59,7 +59,7 @@ thread.join()
 
 
 class StandIns(Case):
-    """What is raised, and that the next use works."""
+    """The exception, and that the next use works."""
 
     def opened(self, text: str) -> Bench:
         bench = Bench.open(None, period=10, program=self.stand_in(text))
@@ -148,7 +148,7 @@ class StandIns(Case):
         self.assertLess(time.monotonic() - began, SOON)
 
     def test_forked(self) -> None:
-        """A process that drops what its parent has open says nothing, and the parent goes on."""
+        """A process that drops its parent's open programs prints nothing, and the parent continues."""
         words = [sys.executable, "-W", "error", "-c", FORKS, str(self.stand_in(before_usual("")))]
         done = subprocess.run(words, capture_output=True, env={**os.environ, "PYTHONPATH": str(TOP / "python")}, timeout=LONG)
         self.assertEqual((done.returncode, done.stdout, done.stderr.decode()), (0, b"", ""))
@@ -170,7 +170,7 @@ class StandIns(Case):
                 self.assertEqual(bench.network.events, [1])
 
     def test_one_reply_too_many(self) -> None:
-        """It is told at once, and nothing of it is taken: in one write, in another one, and a part of a line."""
+        """It is reported at once, and none of it is accepted: in one write, in another one, and a part of a line."""
         for extra in ['b"cost 3\\ncost 4\\n"', 'b"cost 3\\n")\n    write(b"cost 4\\n"', 'b"cost 3\\ncos"']:
             bench = self.opened(before_usual(f'if line == "cost":\n    write({extra})\n    return'))
             bench.add_event(1)
@@ -181,7 +181,7 @@ class StandIns(Case):
             self.assertEqual((bench.network.events, bench.journal), ([1, 3], ["add event 1", "add event 3"]))
 
     def test_one_reply_too_many_later(self) -> None:
-        """What comes when nobody asks is seen before the next line is sent, and no answer shifts."""
+        """Unexpected output is noticed before the next line is sent, and no answer shifts."""
         waits = 'while not pathlib.Path(__file__).with_name("may-go-on").exists():\n        time.sleep(0.01)'
         bench = self.opened(before_usual(f'if line == "add event 1" and start == 1:\n    write(b"ok\\n")\n    {waits}'))
         bench.add_event(1)
@@ -194,7 +194,7 @@ class StandIns(Case):
         self.assertEqual(bench.network.events, [1, 3])
 
     def test_replies_to_another_command(self) -> None:
-        """A reply that comes while another is waited for is none to it, as far as its form tells."""
+        """A reply that comes instead of another is rejected, if its form shows it."""
         bench = self.opened(before_usual('if line == "domain 2":\n    write(b"3: 1 2\\n")\n    return'))
         for command in ["domain 2", "cost", "violations", "tensions", "optimum"]:
             self.assertRaises(BadReply, bench.ask, command)

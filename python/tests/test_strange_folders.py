@@ -1,4 +1,5 @@
-"""What a stranger's folder has in the place of files, places beyond any map, and costs that no number of JavaScript tells."""
+"""A stranger's folder with other things instead of files, places beyond any map, and costs beyond the exact numbers of JavaScript.
+"""
 
 from __future__ import annotations
 
@@ -30,7 +31,7 @@ FAR: List[Dict[str, Any]] = [
 
 
 class Folders(Case):
-    """Over a folder that was saved, with another thing in the place of one of its files."""
+    """A saved folder, with another thing instead of one of its files."""
 
     def setUp(self) -> None:
         super().setUp()
@@ -47,7 +48,7 @@ class Folders(Case):
         return told.exception.text
 
     def test_links(self) -> None:
-        """One that leads to another file of the folder is followed, and no other is."""
+        """A link to another file of the folder is followed, and no other one."""
         for name in NAMES:
             path = self.network / name
             for target in (str(self.folder / "outside"), "../outside", "/dev/zero", "/nowhere"):
@@ -71,7 +72,7 @@ class Folders(Case):
             (self.folder / "aside").rename(path)
 
     def test_a_link_in_the_place_of_a_report(self) -> None:
-        """Under a name that nobody gave, a report gives nothing away to a link."""
+        """Under a default name, a report is not written through a link."""
         victim, before = self.folder / "victim", os.getcwd()
         victim.write_text("mine\n")
         (self.folder / "network.html").symlink_to(victim)
@@ -82,7 +83,7 @@ class Folders(Case):
         self.assertEqual((victim.read_text(), (self.folder / "network.html").is_symlink()), ("mine\n", False))
 
     def test_places_of_a_folder(self) -> None:
-        """The report reads those of the folder as the bench does."""
+        """The report reads those of the folder like the bench."""
         (self.network / "places").unlink()
         (self.network / "places").symlink_to(self.folder / "victim")
         (self.folder / "victim").write_text("Secret; 1; 2\n")
@@ -95,7 +96,7 @@ class Drawn(Case):
     """A report and its pictures."""
 
     def content(self, places: Any, weight: int = 5, count: int = 6) -> Dict[str, Any]:
-        """The content of a report on stations of one line, whose numbers are as great as they can be."""
+        """The content of a report on stations of one line, whose numbers are as great as possible."""
         stations, events, slack = ["Ashford", "Benton", "Cranley"], list(range(1, count + 1)), 1_439
         rows = [[event, event, event % count + 1, 3, 9, weight + event % 2] for event in events]
         return {

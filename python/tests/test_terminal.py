@@ -1,4 +1,4 @@
-"""Names of strangers: what a terminal would obey is written out, in every command, faults included."""
+"""Names of strangers: characters that a terminal would obey are escaped, in every command, including faults."""
 
 from __future__ import annotations
 
@@ -17,7 +17,7 @@ from pespbench.__main__ import main
 from pespbench.terminal import LAYOUT, shown, write
 from tests.common import PROGRAM, Case
 
-# Clears the screen, rings, turns red by a control of one byte, turns the direction, ends the line, goes to its begin.
+# Clears the screen, rings, turns red by a control of one byte, changes the direction, ends the line, goes to its start.
 STEERING = "\x1b[2J\x07\x9b31m\u202e\u2066\x7f\n\t\r\u2028"
 WRITTEN = "\\x1b[2J\\x07\\x9b31m\\u202e\\u2066\\x7f\\x0a\\x09\\x0d\\u2028"
 DYING = """
@@ -48,7 +48,7 @@ class Names(Case):
         self.times.write_text("1; 5\n2; 9\n")
 
     def typed(self, *words: str, given: str = "", program: str = PROGRAM) -> Tuple[int, str]:
-        """The status of a command line and what it prints, to whichever stream."""
+        """The status of a command line and its output, on either stream."""
         with contextlib.redirect_stdout(io.StringIO()) as told, contextlib.redirect_stderr(told):
             with mock.patch("sys.stdin", io.StringIO(given)):
                 try:
@@ -58,7 +58,7 @@ class Names(Case):
         return status, told.getvalue()
 
     def is_shown(self, text: str, *wanted: str) -> None:
-        """A text steers nothing, and has what is wanted."""
+        """A text steers nothing, and contains the expected words."""
         steering = {letter for letter in text if unicodedata.category(letter) in ("Cc", "Cf", "Zl", "Zp", "Cs")} - {"\n"}
         self.assertEqual(steering, set(), text)
         for each in wanted:
@@ -85,7 +85,7 @@ class Names(Case):
         self.is_shown(told, f"1 5  M{WRITTEN} to C{WRITTEN} leaves A{WRITTEN}\n", f"# saved: {self.folder}/to\\x1b[2J\\u202e\n")
 
     def test_report(self) -> None:
-        """Its default name is that of the network, and what it writes can be shown at a terminal."""
+        """Its default name is that of the network, and its path can be printed at a terminal."""
         before = os.getcwd()
         self.addCleanup(os.chdir, before)
         os.chdir(self.folder)
@@ -121,7 +121,7 @@ class Names(Case):
 
 
 class Shown(unittest.TestCase):
-    """What is written out."""
+    """Escaped characters."""
 
     def test_texts(self) -> None:
         self.assertEqual(shown(STEERING), WRITTEN)

@@ -1,4 +1,4 @@
-"""Variants and parts: over processes of this machine, threads, executors of the caller, and Dask where it is installed."""
+"""Variants and parts: with processes of this machine, threads, executors of the caller, and Dask if it is installed."""
 
 from __future__ import annotations
 
@@ -22,7 +22,7 @@ from tests.test_progress import interrupt_when
 
 
 class Small(Case):
-    """A test over small networks."""
+    """A test with small networks."""
 
     def small(self, seed: int) -> Bench:
         """A network of 4 events whose optimum is found at once."""
@@ -35,7 +35,7 @@ def drawn_lists(count: int) -> List[List[str]]:
 
 
 def one_by_one(bench: Bench, lists: List[List[str]], ask: str = "optimum") -> List[object]:
-    """What each list of edits has as its answer, by one program."""
+    """The answer of each list of edits, by one program."""
     answers: List[object] = []
     for edits in lists:
         with bench.trial():
@@ -44,10 +44,10 @@ def one_by_one(bench: Bench, lists: List[List[str]], ask: str = "optimum") -> Li
 
 
 class Dying(Case):
-    """`variants` over a program that dies."""
+    """`variants` with a program that dies."""
 
     def test_a_program_that_dies(self) -> None:
-        """A variant at which the program dies is given out again once, and is then told."""
+        """A variant at which the program dies is repeated once, and then reported."""
         program = self.stand_in('if line == "fix 1 7" or line == "fix 1 5" and start == 2:\n    sys.exit(1)\nwrite(EMPTY if line == "dump" else b"ok\\n" if line != "cost" else b"cost 3\\n")')
         with Bench.open(None, period=10, program=program) as bench, ThreadPoolExecutor(1) as executor:
             bench.add_event(1)
@@ -58,7 +58,7 @@ class Dying(Case):
         self.assertTrue(isinstance(lost, Lost) and lost.task == 7 and "status 1" in str(lost), lost)
 
 
-# A program whose second start waits in the middle of its opening, and which notes that it searches.
+# A program whose second start waits in the middle of its opening, and which records that it searches.
 OPENS_LATE = r"""
 folder = pathlib.Path(__file__).parent
 if line == "add event 1" and start == 2:
@@ -72,10 +72,10 @@ write(EMPTY if line == "dump" else b"infeasible\n" if line == "optimum" else b"o
 
 
 class Over(Case):
-    """`variants` that are broken off."""
+    """`variants` that are interrupted."""
 
     def test_a_thread_that_opens_late(self) -> None:
-        """A thread whose program is there only when all is over asks it nothing: nobody would end that search."""
+        """A thread whose program starts only after the end of all work sends nothing to it: nobody would end that search."""
         opening, searching = self.folder / "opening", self.folder / "searching"
         with Bench.open(None, period=10, program=self.stand_in(OPENS_LATE)) as bench, ThreadPoolExecutor(1) as executor:
             bench.add_event(1)
@@ -92,7 +92,7 @@ class Variants(Small):
     """`variants`."""
 
     def test_a_worker_is_ended(self) -> None:
-        """Of many variants one worker is ended in the middle: all are answered, as one after the other."""
+        """One worker dies in the middle of many variants: all are answered, in their order."""
         lists = drawn_lists(1_000 // PATIENCE)
         with self.small(1) as bench:
             wanted = one_by_one(bench, lists)
@@ -135,7 +135,7 @@ class Variants(Small):
 
 @contextmanager
 def at_step(step: int, do: Callable[[], None]) -> Iterator[None]:
-    """Does something once, when so many tasks are done."""
+    """Does something once, when this many tasks are done."""
     steps = itertools.count(1)
 
     def stepped(_: Bar) -> None:
@@ -179,7 +179,7 @@ class Parts(Small):
             self.assertRaises(ValueError, optimum_in_parts, bench, spans=0)
 
     def test_ties(self) -> None:
-        """Timetables that cost the same in many parts: the first of them all is told."""
+        """Timetables of equal cost in many parts: the first of them all is returned."""
         with Bench.open(None, period=6, **self.how) as bench, ThreadPoolExecutor(2) as executor:
             bench.many([f"add event {event}" for event in range(3)])
             bench.many(["add activity 1 0 1 0 4 1", "add activity 2 1 2 0 4 1", "add activity 3 0 2 4 5 0"])

@@ -1,4 +1,4 @@
-"""Why: each told set is infeasible by the program, and none of its members can be left out."""
+"""Why: each reported set is infeasible by the program, and none of its members can be omitted."""
 
 from __future__ import annotations
 
@@ -16,12 +16,12 @@ from pespbench.wording import Names
 from tests.common import PATIENCE, PROGRAM, Case, over_both
 
 NETWORKS = 1_000 // PATIENCE
-# Long enough for a program that was built without its proofs, which takes a hundred times as long.
+# Long enough for an unproved program under Node, which takes a hundred times as long.
 SECONDS = 1_000.0
 
 
 def small_network(seed: int) -> Network:
-    """A network of two to six events, which is infeasible more often than not; loops and parallel activities come too."""
+    """A network of two to six events, which is usually infeasible; it may have loops and parallel activities."""
     draw = random.Random(seed)
     period, count = draw.randrange(4, 13), draw.randrange(2, 7)
     network = Network(period, {event: None for event in range(1, count + 1)})
@@ -39,7 +39,7 @@ def small_network(seed: int) -> Network:
 
 
 def with_members(network: Network, members: Mapping[Member, Bounds]) -> Network:
-    """The network with just these spans and windows, on all events."""
+    """The network with only these spans and windows, on all events."""
     made = Network(network.period, dict.fromkeys(network.windows))
     for member, bounds in members.items():
         if isinstance(bounds, Held):
@@ -51,26 +51,26 @@ def with_members(network: Network, members: Mapping[Member, Bounds]) -> Network:
 
 
 def without(members: Mapping[Member, Bounds], member: Member) -> dict[Member, Bounds]:
-    """The members but one."""
+    """The members without one."""
     return {each: bounds for each, bounds in members.items() if each != member}
 
 
 class Small(Case):
-    """Drawn networks that are so small that the program decides each question about them."""
+    """Random networks so small that the program decides each question about them."""
 
     def setUp(self) -> None:
         super().setUp()
         self.benches: dict[tuple[int, str], Bench] = {}
 
     def bench(self, period: int, use: str) -> Bench:
-        """A bench without events at a period, for a use."""
+        """A bench without events at a period, in a context."""
         if (period, use) not in self.benches:
             self.benches[period, use] = Bench.open(None, period=period, program=PROGRAM)
             self.addCleanup(self.benches[period, use].close)
         return self.benches[period, use]
 
     def decided(self, network: Network) -> Found:
-        """What the program says of a network."""
+        """The program's answer on a network."""
         bench = self.bench(network.period, "check")
         with bench.trial():
             found = bench.many([*network.script(), "optimum"])[-1]
@@ -103,7 +103,7 @@ class Small(Case):
             self.assertLessEqual(activity.slack(network.period, times), activity.upper - activity.lower)
 
     def check_conflict(self, network: Network, conflict: Conflict, lower: bool) -> None:
-        """The program says that the set is infeasible, and that there is a timetable without any one member."""
+        """The program finds the set infeasible, and a timetable without any one member."""
         for member, bounds in conflict.members.items():
             self.assertEqual(bounds, bounds_in(network, member))
         self.assertIsInstance(self.decided(with_members(network, conflict.members)), Infeasible)
@@ -117,7 +117,8 @@ class Small(Case):
             self.assertFalse(any(each % network.period == 0 for each in range(conflict.shape.least, conflict.shape.most + 1)))
 
     def check_mend(self, network: Network, conflict: Conflict, mend: Mend, lower: bool) -> None:
-        """A mend mends, one with a minute less does not, what is said of the whole network is so, and least minutes stay."""
+        """A repair works, one with a minute less does not, the statement on the whole network is right, and minimum minutes stay.
+        """
         self.assertFalse(mend.is_less and not lower)
         self.assertIsInstance(self.decided(with_members(network, {**conflict.members, mend.member: mend.after})), Optimum)
         for is_later in (True, False) if lower or mend.member.of is Of.EVENT else (True,):
@@ -132,7 +133,7 @@ class Small(Case):
 
 
 def bounds_in(network: Network, member: Member) -> Bounds:
-    """What a network asks of a member."""
+    """The span or window of a member."""
     if member.of is Of.ACTIVITY:
         return Span(network.activities[member.number].lower, network.activities[member.number].upper)
     window = network.windows[member.number]
@@ -153,7 +154,7 @@ class Told(Case):
     def told(
         self, commands: list[str], period: int, hard: tuple[str, ...] | None = (), kinds: dict[int, str] | None = None, lower: bool = False
     ) -> str:
-        """What is told of a network with few labels."""
+        """The text on a network with few labels."""
         with Bench.from_script("\n".join(commands), period=period, **self.how) as bench:
             bench.labels.activities.update(kinds or {})
             return text_of(why(bench, hard, lower=lower), Names(bench.labels, bench.network.activities))
@@ -166,7 +167,7 @@ class Told(Case):
         self.assertEqual(text.count("in place of"), 1)
 
     def test_circle_with_kinds(self) -> None:
-        """A turnaround is named before a change and others; what runs against the circle has a line of its own."""
+        """A turnaround is named before a change and others; an activity in the opposite direction has a line of its own."""
         commands = [f"add event {event}" for event in (1, 2, 3, 4)]
         commands += ["add activity 1 1 2 3 3 0", "add activity 2 2 3 4 6 0", "add activity 3 3 4 3 4 0", "add activity 4 1 4 2 3 0"]
         kinds = {1: "run", 2: "change", 3: "turnaround", 4: "dwell"}
@@ -180,21 +181,21 @@ class Told(Case):
         self.assertIn(f"  2 minutes more  {turn}", one)
 
     def test_just_what_is_usually_kept(self) -> None:
-        """Runs and dwells can be changed where nothing else is in the conflict, unless that is asked for."""
+        """Runs and dwells can be changed if nothing else is in the conflict, unless that is excluded."""
         commands = ["add event 1", "add event 2", "add activity 1 1 2 3 3 0", "add activity 2 2 1 4 6 0"]
         kinds = {1: "run", 2: "dwell"}
         self.assertIn("1 minute more  anywhere on it, such as run 1 ", self.told(commands, 10, None, kinds))
         self.assertIn("No member that may be changed", self.told(commands, 10, ("run", "dwell"), kinds))
 
     def test_mends_that_leave_another_conflict(self) -> None:
-        """Where some of a circle mend the whole network and some do not, each has a line of its own."""
+        """If some members of a circle repair the whole network and some do not, each has a line of its own."""
         commands = ["add event 1", "add event 2", "add activity 1 1 2 3 3 0", "add activity 2 2 1 4 6 0", "add activity 3 2 1 6 6 0"]
         text = self.told(commands, 10, (), {2: "turnaround"})
         self.assertNotIn("anywhere", text)
         self.assertEqual(text.count("in place of"), 2)
 
     def test_lowered(self) -> None:
-        """Least minutes are lowered where that is asked for, and then it is told as less."""
+        """Minimum minutes are lowered on request, and the text then says less."""
         commands = ["add event 1", "add event 2", "add activity 1 1 2 5 5 0", "add activity 2 2 1 7 7 0"]
         kept, lowered = self.told(commands, 10), self.told(commands, 10, lower=True)
         self.assertIn("8 minutes more  anywhere on it, such as activity 1 from event 1 to event 2  5 to 13 minutes in place of 5\n", kept)
@@ -233,7 +234,7 @@ class Told(Case):
 
 
 class Regions(Case):
-    """A region of the size that a planner works on."""
+    """A region of the size of a planner's."""
 
     def test_infeasible_region(self) -> None:
         region = draw_region(3, feasible=False)

@@ -1,4 +1,4 @@
-"""The subcommands why, report and compare as they are typed."""
+"""The subcommands why, report and compare as typed."""
 
 from __future__ import annotations
 
@@ -21,16 +21,16 @@ TIMES = str(EXAMPLES / "hourly-line/times")
 
 
 class Words(Case):
-    """Command lines with what they print."""
+    """Command lines with their output."""
 
     def typed(self, *words: str, status: int = 0) -> str:
-        """What a command line prints, where it ends with a status."""
+        """The output of a command line that ends with a status."""
         with contextlib.redirect_stdout(io.StringIO()) as told:
             self.assertEqual(main([*words, "--program", PROGRAM]), status)
         return told.getvalue()
 
     def refused(self, *words: str) -> None:
-        """A command line whose words are wrong."""
+        """A command line with wrong arguments."""
         with contextlib.redirect_stderr(io.StringIO()), self.assertRaises(SystemExit) as caught:
             main(list(words))
         self.assertEqual(caught.exception.code, 2)
@@ -74,7 +74,7 @@ class Words(Case):
         self.assertNotIn("var(", picture.read_text(encoding="utf-8"))
 
     def test_netgraph_without_node(self) -> None:
-        """Where there is no Node the report is written, and it is said that the netgraph is not."""
+        """Without Node the report is written, with a warning that it lacks the netgraph."""
         output, picture = self.folder / "report.html", self.folder / "netgraph.svg"
         with contextlib.redirect_stderr(io.StringIO()) as told, mock.patch("pespbench.report.drawing.shutil", mock.Mock(which=lambda name: None)):
             self.typed("report", LINE, "--output", str(output), "--netgraph", str(picture), status=1)
@@ -82,7 +82,7 @@ class Words(Case):
         self.assertIn("no netgraph is drawn: it is drawn by the page's JavaScript under Node", told.getvalue())
 
     def test_report_by_default(self) -> None:
-        """It goes to a file that is named after the network, which is told, and not to the terminal."""
+        """It is written to a file that is named after the network, which is printed, and not to the terminal."""
         before = os.getcwd()
         self.addCleanup(os.chdir, before)
         os.chdir(self.folder)

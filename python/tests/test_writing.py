@@ -1,4 +1,4 @@
-"""How files are written: whole or not at all, through no link, and to devices and pipes as they are."""
+"""How files are written: whole or not at all, through no link, and directly to devices and pipes."""
 
 from __future__ import annotations
 
@@ -43,7 +43,7 @@ class Single(Case):
 
     @unittest.skipUnless(os.path.exists("/proc/self/fd/1"), "standard output has no name")
     def test_standard_output_by_its_name(self) -> None:
-        """A link as /dev/stdout leads to a pipe or to a file, and is what it was afterwards."""
+        """A link such as /dev/stdout leads to a pipe or to a file, and is unchanged afterwards."""
         path = self.folder / "stdout"
         path.symlink_to("/proc/self/fd/1")
         environment = {**os.environ, "PYTHONPATH": str(TOP / "python")}
@@ -84,11 +84,11 @@ class Sets(Case):
     """The files of a folder."""
 
     def contents(self, folder: Path) -> Dict[str, str]:
-        """What each file of a folder has."""
+        """The contents of each file of a folder."""
         return {path.name: path.read_text() for path in folder.iterdir() if path.is_file()}
 
     def saved(self) -> Bench:
-        """A bench that was saved, with a folder `network`, and changed after that."""
+        """A bench that was saved in a folder `network`, and then changed."""
         bench = self.two_trains(times=TIMES)
         bench.labels = Labels({1: EventLabel("M", "Dale", "Ashford", "departure")})
         bench.places = {"Ashford": (1.0, 2.5)}
@@ -131,7 +131,7 @@ class Sets(Case):
         self.assertEqual(self.contents(self.folder / "network"), before)
 
     def test_a_failure_at_each_step(self) -> None:
-        """Whichever call fails, all eight files are those before, and nothing is beside them."""
+        """Whichever call fails, all eight files are the old ones, and nothing is beside them."""
         bench = self.saved()
         before = self.contents(self.folder / "network")
         self.assertEqual(len(before), 8)
@@ -165,7 +165,7 @@ class Sets(Case):
 
 @contextmanager
 def failing(name: str, place: int, fault: BaseException) -> Iterator[None]:
-    """One call of a function of `os` fails, after as many as the place says."""
+    """One call of a function of `os` fails, after this many others."""
     usual, calls = getattr(os, name), count()
 
     def call(*words: Any, **named: Any) -> Any:

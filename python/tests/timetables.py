@@ -1,4 +1,4 @@
-"""All timetables of small networks, one by one, and what follows from them by definition."""
+"""All timetables of small networks, one by one, and their consequences by definition."""
 
 from __future__ import annotations
 
@@ -32,7 +32,7 @@ def small_script(draw: random.Random, period: int) -> List[str]:
     lines = [f"add event {event}" for event in events]
     for activity in range(draw.randrange(1, 7)):
         lower = draw.randrange(-3, period)
-        # Some spans rule nothing out, or are longer than a period.
+        # Some spans exclude nothing, or are longer than a period.
         upper = lower + draw.randrange(period + 2 if draw.random() < 0.2 else period - 2)
         lines.append(f"add activity {activity} {draw.choice(events)} {draw.choice(events)} {lower} {upper} {draw.randrange(4)}")
     if draw.random() < 0.5:

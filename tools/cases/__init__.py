@@ -1,1 +1,1 @@
-"""Drawn cases of the definitions, as the model of tools/tests answers them: what tools/draw_cases writes."""
+"""Random cases of the definitions with the answers of the model in tools/tests, which tools/draw_cases writes."""

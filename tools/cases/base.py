@@ -1,4 +1,4 @@
-"""Drawn cases of crates/pesp_base: tensions, windows, numbers in texts, bounds and limits."""
+"""Random cases of crates/pesp_base: tensions, windows, numbers in texts, bounds and limits."""
 
 import random
 from typing import Dict, Iterator, List
@@ -30,7 +30,7 @@ USED: Dict[str, List[str]] = {
 
 
 def bounds_drawn(draw: random.Random, period: int) -> List[int]:
-    """Bounds below and above zero, at times by a period or more apart, and at times as far as bounds go."""
+    """Bounds below and above zero, at times that differ by a period or more, and at the greatest distance of bounds."""
     lower = draw.choice([draw.randrange(period), draw.randint(-2 * period, 2 * period), draw.choice([BOUNDS[0], BOUNDS[-1] - 3])])
     return [lower, min(lower + draw.choice([0, 1, 2, draw.randrange(period), period - 1, period, 3 * period]), BOUNDS[-1])]
 
@@ -49,7 +49,7 @@ def tensions(draw: random.Random, period: int) -> Iterator[Case]:
 
 
 def windows(draw: random.Random, period: int) -> Iterator[Case]:
-    """Of a window: its residues, and its time where it has one alone."""
+    """Of a window: its residues, and its time if it has only one."""
     for _ in range(WINDOWS):
         first, length = draw.randrange(period), draw.choice([1, draw.randint(1, period), period])
         network = Network(period)
@@ -60,7 +60,7 @@ def windows(draw: random.Random, period: int) -> Iterator[Case]:
 
 
 def text_drawn(draw: random.Random, limits: range) -> str:
-    """A number in digits, most often near a limit, or a text that is none."""
+    """A number in digits, usually near a limit, or an invalid text."""
     near = draw.choice([limits[0], limits[-1], 0, draw.choice(limits)]) + draw.choice([-1, 0, 0, 1])
     digits = str(abs(near)).rjust(draw.choice([1, 1, 1, 20]), "0")
     text = ("-" if near < 0 else draw.choice(["", "", "+", "-"])) + digits

@@ -1,4 +1,4 @@
-"""Drawn cases of crates/pesp_domains: the domains of networks, with and without pushed pairs."""
+"""Random cases of crates/pesp_domains: the domains of networks, with and without pushed pairs."""
 
 import random
 from typing import Dict, Iterator, List

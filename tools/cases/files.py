@@ -1,4 +1,4 @@
-"""The files of drawn cases, each from a seed of its own."""
+"""The files of random cases, each from a seed of its own."""
 
 import random
 from typing import Dict

@@ -1,4 +1,4 @@
-"""Drawn networks, and the terms for them."""
+"""Random networks, and their terms."""
 
 import random
 from typing import Dict, List, Mapping, Optional, Tuple
@@ -8,7 +8,7 @@ from tests.model import Model
 from tests.network import Network
 from tests.quick_model import drawn_network
 
-# What the terms below name.
+# The definitions in the terms below.
 USED: Dict[str, List[str]] = {
     "pesp_base.proofs.Samples": ["signed_arc as arc"],
     "pesp_instance.specs.Network": ["Network", "new_event"],
@@ -45,7 +45,7 @@ def timetable(period: int, times: Mapping[int, int]) -> str:
 
 
 def built(draw: random.Random) -> Model:
-    """A network around times that most often meet all of it."""
+    """A network around times that usually meet all of it."""
     network = Model(draw.randint(2, 12))
     times = {number: draw.randrange(network.period) for number in sorted(draw.sample(range(1, 10), draw.randint(2, 4)))}
     for number in times:
@@ -62,7 +62,7 @@ def built(draw: random.Random) -> Model:
 
 
 def drawn(draw: random.Random, most_times: Optional[int] = None) -> Model:
-    """A drawn network with an activity or more, and with so many lists of times at most."""
+    """A random network with at least one activity, and with at most this many lists of times."""
     while True:
         network = built(draw) if draw.randrange(3) else drawn_network(draw)
         is_small = most_times is None or network.period ** len(network.events) <= most_times

@@ -1,4 +1,4 @@
-"""Drawn cases of crates/pesp_shell_replies: transcripts of drawn lines."""
+"""Random cases of crates/pesp_shell_replies: transcripts of random lines."""
 
 import random
 from typing import Dict, Iterator, List, NamedTuple, Optional, Tuple
@@ -50,7 +50,7 @@ def work(network: Model) -> str:
 
 
 def said(line: bytes) -> Tuple[str, List[int]]:
-    """The name of a line's command and its numbers; no name where it is none."""
+    """The name of a line's command and its numbers; an empty name if it is not a command."""
     try:
         return parse(line) or ("", [])
     except Fault:
@@ -80,7 +80,7 @@ def proof(network: Model, name: str, line: bytes) -> Optional[str]:
 
 
 def drawn_step(draw: random.Random, network: Model, name: str) -> Tuple[bytes, str]:
-    """A line whose reply is shown legal here, and how."""
+    """A line whose reply is proved legal here, and how."""
     while True:
         line = drawn_line(draw, network.period)
         shown = proof(network, name, line)
@@ -89,7 +89,7 @@ def drawn_step(draw: random.Random, network: Model, name: str) -> Tuple[bytes, s
 
 
 def steps(draw: random.Random, network: Model, stream: str) -> Tuple[Dict[str, str], List[Step]]:
-    """The works that drawn lines go through, each by its name, and the lines."""
+    """The works between random lines, each by its name, and the lines."""
     name = f"{stream}_0"
     works, taken = {name: work(network)}, []
     for _ in range(LINES):

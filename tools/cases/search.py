@@ -1,4 +1,4 @@
-"""Drawn cases of crates/pesp_search: optima, sizes of trees, and the places of timetables in them."""
+"""Random cases of crates/pesp_search: optima, sizes of trees, and the places of timetables in them."""
 
 import random
 from typing import Dict, Iterator, List, NamedTuple, Tuple

@@ -1,4 +1,4 @@
-"""How many sweeps over all pairs leave the domains: what the proofs of crates/pesp_domains are to try."""
+"""The number of sweeps over all pairs that reach the domains, for the proofs of crates/pesp_domains."""
 
 from typing import Mapping, Set, Tuple
 
@@ -20,7 +20,7 @@ def stands(network: Network, pushed: Mapping[int, int], pairs: Pairs, event: int
 
 
 def sweeps(network: Network, pushed: Mapping[int, int]) -> int:
-    """After how many sweeps each pair that is left stands by those that are left."""
+    """After how many sweeps each remaining pair is supported by the others."""
     pairs = {(event, residue) for event in network.events for residue in range(network.period)}
     count = 0
     while True:

@@ -1,4 +1,4 @@
-"""Drawn cases of crates/pesp_tension: what timetables make of networks, and what changes make of timetables."""
+"""Random cases of crates/pesp_tension: the tensions of timetables, and the effect of changes on them."""
 
 import random
 from typing import Dict, Iterator, List

@@ -1,10 +1,10 @@
-"""Values and facts as the proofs' language writes them, in the layout of `rt fmt`."""
+"""Values and facts in the proofs' language, in the layout of `rt fmt`."""
 
 from typing import Iterable, List, Mapping, NamedTuple, Optional, Sequence
 
 
 class Case(NamedTuple):
-    """A definition at some arguments, and what the model says of them."""
+    """A definition at some arguments, and the model's value of it."""
 
     asked: str
     answer: str
@@ -51,7 +51,7 @@ def used(names: Mapping[str, Sequence[str]]) -> List[str]:
 
 
 def defined(remark: str, name: str, kind: str, left: str, term: str) -> List[str]:
-    """A definition that unfolds everywhere."""
+    """A definition that is unfolded everywhere."""
     return [f"-- {remark}", f"abbrev {name} : {kind}", f"{left} = {term}", ""]
 
 
@@ -60,7 +60,7 @@ def fact(name: str, statement: str, proof: str) -> List[str]:
 
 
 def agreed(name: str, cases: Sequence[Case]) -> List[str]:
-    """One fact for all cases: what the definitions make of them, in a list, is what the model says."""
+    """One fact for all cases: the list of the definitions' values is that of the model's."""
     asked = listed(one(case.asked) if "∷" in case.asked else case.asked for case in cases)
     answers = listed(one(case.answer) if "∷" in case.answer else case.answer for case in cases)
     return fact(name, f"{asked} ≡ {answers}", "refl")

@@ -1,1 +1,1 @@
-"""What the built program does where memory, devices and files fail it."""
+"""The behavior of the built program when memory, devices and files fail."""

@@ -1,4 +1,4 @@
-"""The public calls that a program makes one by one, with each of its requests for memory refused in turn."""
+"""The public calls that a program makes one by one, with each of its memory requests refused in turn."""
 
 import re
 from pathlib import Path
@@ -11,7 +11,7 @@ from tests.harness import TOP
 
 CALLER = "pesp_tests_memory"
 OUTSIDE = (1, b"no room\n")
-# Want of memory in the form of each call; that of most is refusal 10.
+# Out of memory in the result of each call; for most it is refusal 10.
 REFUSAL = rb"Err\(Memory\)\n"
 READ = rb"ReadFault \{ place: \d+, kind: Memory \}\n"
 FORMS = {
@@ -28,23 +28,24 @@ FORMS = {
     "best_within in the tree": rb"Memory\n",
     "known_within in the tree": rb"Memory\n",
 }
-# Calls that go another way where a request is refused. All is as without a refusal, unless one of that way is refused too.
+# Calls that work without the refused memory. Their results are as without a refusal, unless a request of that other way is refused
+# too.
 TWO_WAYS = ["read_activities"]
-# Cases of calls that take no memory.
+# Cases of calls that need no memory.
 QUIET = " without memory"
-# What a search may leave after where memory is refused after it.
+# The possible after-states of a search whose later requests are refused.
 SEARCHES = ["Bench::find_optimum", "Bench::optimum", "Bench::try_optimum", "Bench::adopt", "reply to optimum"]
 KNOWN = re.compile(rb"^known .*\n", re.MULTILINE)
 NODES = re.compile(rb"^nodes \d+\n", re.MULTILINE)
 HEADS = re.compile(rb"^(case .*|before|answer|after|again)\n", re.MULTILINE)
 
 
-# What was told of a call, each part with its head.
+# The report of a call, in parts with their heads.
 Call = List[Tuple[bytes, bytes]]
 
 
 def calls_of(output: bytes) -> List[Call]:
-    """What was told of each call: the state before, the answer and the state after it, and the two of the call made again."""
+    """The reports of each call: the state before, the answer and the state after it, and the latter two of the repeated call."""
     parts = HEADS.split(output)
     calls: List[Call] = []
     for head, text in zip(parts[1::2], parts[2::2]):
@@ -56,12 +57,12 @@ def calls_of(output: bytes) -> List[Call]:
 
 
 def without_nodes(name: str, state: bytes) -> bytes:
-    """The state, for a call that searches without the nodes of the last search."""
+    """The state, without the nodes of the last search if the call searches."""
     return NODES.sub(b"", state) if name in SEARCHES else state
 
 
 def is_left(name: str, before: bytes, after: bytes, done: bytes) -> bool:
-    """Whether a refused call leaves what it was lent; one that searches may leave the optimum known that it finds where it is done."""
+    """Whether a refused call leaves its arguments unchanged; one that searches may leave a found optimum known."""
     if name not in SEARCHES:
         return after == before
     is_known = b"".join(KNOWN.findall(after)) in (b"".join(KNOWN.findall(state)) for state in (before, done))
@@ -69,7 +70,7 @@ def is_left(name: str, before: bytes, after: bytes, done: bytes) -> bool:
 
 
 def fault_of_refused(name: str, call: Call, plain: Call) -> Optional[str]:
-    """What is wrong with a call that was refused memory and made again."""
+    """The fault of a call that was refused memory and repeated."""
     if [head for head, _ in call] != [b"before", b"answer", b"after", b"again", b"after"]:
         return "a call that was refused is not made again"
     before, answer, after, again, last = (text for _, text in call)
@@ -86,7 +87,7 @@ def fault_of_refused(name: str, call: Call, plain: Call) -> Optional[str]:
 
 
 def judge_call(name: str, came: Came, plain: Came) -> Tuple[Optional[str], bool]:
-    """What is wrong with a run, if anything, and whether memory was refused inside of a call."""
+    """The fault of a run, if any, and whether memory was refused within a call."""
     if (came.status, came.error) == OUTSIDE:
         return None if plain.output.startswith(came.output) else "another output before an input had no room", False
     if (came.status, came.error) != (plain.status, plain.error):
@@ -103,7 +104,7 @@ def judge_call(name: str, came: Came, plain: Came) -> Tuple[Optional[str], bool]
 
 
 def refuse_each(served: Served, name: str, plain: Came, order: Callable[[int], Order]) -> Tuple[List[Came], List[Wrong], int]:
-    """Refuses one request after the other, until none is: what came, what was wrong, and how often a call had none."""
+    """Refuses one request after the other, until none is refused: the result, the fault, and how many calls made no request."""
     runs: List[Came] = []
     wrong: List[Wrong] = []
     inside = 0
@@ -119,7 +120,7 @@ def refuse_each(served: Served, name: str, plain: Came, order: Callable[[int], O
 
 
 def is_outside(came: Came) -> bool:
-    """Whether an input had no room, before a call."""
+    """Whether the input itself ran out of memory, before a call."""
     return (came.status, came.error) == OUTSIDE
 
 
@@ -144,7 +145,7 @@ def refuse_in_case(suite: Suite, folder: Path, program: Path, name: str) -> int:
 
 
 def calls(suite: Suite, given: Input) -> None:
-    """Each case of the program, as it names them itself."""
+    """Each case of the program, as it names them."""
     program = TOP / f"crates/{given.name}/out/{given.name}"
     if not program.exists():
         suite.holds(f"there is a program at {program} (made by `rt run` in its crate)", False)

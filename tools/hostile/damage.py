@@ -35,7 +35,7 @@ REPLY_LINE = re.compile(
 
 
 def damaged(text: bytes) -> Iterator[Tuple[str, bytes]]:
-    """Each text that is cut or has one byte changed, with what was done."""
+    """Each damaged text, truncated or with one byte changed, and its description."""
     for place in range(len(text)):
         yield f"cut at byte {place}", text[:place]
     for place in range(len(text)):
@@ -45,7 +45,7 @@ def damaged(text: bytes) -> Iterator[Tuple[str, bytes]]:
 
 
 def is_answered(given: bytes, output: bytes) -> bool:
-    """Whether the output has a whole reply for each line of commands that has one, and nothing else."""
+    """Whether the output has a complete reply for each line of commands that has one, and nothing else."""
     lines = output.split(b"\n")
     if lines.pop() or not all(REPLY_LINE.fullmatch(line) for line in lines):
         return False
@@ -58,7 +58,7 @@ def is_answered(given: bytes, output: bytes) -> bool:
 
 
 def fault_of_commands(given: bytes, came: Came) -> Optional[str]:
-    """What is wrong with a run over commands, if anything."""
+    """The fault of a run over commands, if any."""
     if came.status == 0 and came.error == b"":
         return None if is_answered(given, came.output) else "replies that are none"
     is_fault = came.status == 1 and FILE_FAULT.fullmatch(came.error) and came.output == b""
@@ -66,7 +66,7 @@ def fault_of_commands(given: bytes, came: Came) -> Optional[str]:
 
 
 class Damage:
-    """One example whose files are in a folder of their own, to be damaged and put right again."""
+    """One example whose files are in a folder of their own, to be damaged and restored."""
 
     def __init__(self, given: Input, served: Served) -> None:
         self.given, self.served = given, served
@@ -94,7 +94,7 @@ class Damage:
         return [(name, fault, came)] if fault else []
 
     def files(self, name: str) -> Tuple[int, List[Wrong]]:
-        """How many damaged texts of a file were tried, and what was wrong."""
+        """The number of damaged texts of a file, and their faults."""
         tried = 0
         wrong: List[Wrong] = []
         with open(self.path(name), "r+b", buffering=0) as file:

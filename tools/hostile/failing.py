@@ -1,4 +1,4 @@
-"""Devices that give and take small pieces, are interrupted, fail, or end, at each call in turn."""
+"""Devices that read and write small pieces, are interrupted, fail, or end, at each call in turn."""
 
 import dataclasses
 import errno
@@ -20,18 +20,18 @@ READ, READ_FILE, WRITE, WRITE_FAULT, OPEN, LENGTH, CLOSE = (
 )
 MOVING = [READ, READ_FILE, WRITE, WRITE_FAULT]
 PIECES = [1, 2, 3, 7]
-# Where there are more calls, some of them are tried, spread over all: so many, and more where all are asked for.
+# The number of calls that are tried, spread over all of them, unless all are requested.
 MOST_CALLS = 1_000
 TRIED_CALLS = {False: 10, True: 40}
 EARLY = b"pespbench: out of memory at line 0\n"
 
 
-# What is wrong with what came of a run at a place, if anything.
+# The fault of a run that failed at a place, if any.
 Judge = Callable[[int, Came], Optional[str]]
 
 
 class Trial:
-    """One input, what comes of it when all goes well, and where the replies to its lines end."""
+    """One input, its result without failures, and where the replies to its lines end."""
 
     def __init__(self, suite: Suite, given: Input, served: Served) -> None:
         self.suite, self.given, self.served = suite, given, served
@@ -43,7 +43,7 @@ class Trial:
         return 1 if calls <= MOST_CALLS else calls // TRIED_CALLS[self.suite.is_whole]
 
     def each(self, name: str, order_at: Callable[[int], Order], judge: Judge) -> None:
-        """Runs the order for the first, second and each later call, until there is none left to answer otherwise."""
+        """Runs the order for the first, second and each later call, until there are no more calls."""
         wrong: List[Wrong] = []
         tried, place, step = 0, 1, self.step(order_at(1))
         while (came := self.served.run(order_at(place))).answered:
@@ -58,7 +58,7 @@ class Trial:
 
 
 def fails(call: str, answer: int, times: int = 1, most: int = 0) -> Callable[[int], Order]:
-    """For each number, the order in which that call and the next ones fail, so many of them; 0 for `answer` is an end."""
+    """For each number, the order in which that call and this many later ones fail; 0 for `answer` is an end."""
     return lambda place: Order(call=call, begin=place, end=ALWAYS if times == ALWAYS else place + times - 1, answer=answer, most=most)
 
 
@@ -69,7 +69,7 @@ def wants(status: int, error: bytes, output: bytes, came: Came) -> Optional[str]
 
 
 def one_run(trial: Trial, name: str, order: Order) -> None:
-    """A single run, which has to be as one without faults."""
+    """A single run, whose result must be as without failures."""
     came = trial.served.run(order)
     fault = trial.is_same(0, came)
     if came.answered or order.most:
@@ -83,7 +83,7 @@ def small_pieces(trial: Trial) -> None:
 
 
 def interrupted(trial: Trial) -> None:
-    """What a file gives and what a fault says is asked for again where a signal interrupted the call."""
+    """Reading a file and writing a fault are repeated if a signal interrupted the call."""
     for call in [call for call in [READ_FILE, WRITE_FAULT] if trial.plain.calls[call]]:
         trial.each(f"{call} interrupted", fails(call, errno.EINTR), trial.is_same)
         trial.each(f"{call} interrupted three times", fails(call, errno.EINTR, 3), trial.is_same)
@@ -92,7 +92,7 @@ def interrupted(trial: Trial) -> None:
 
 
 def failing_reads(trial: Trial) -> None:
-    """Commands of which `n - 1` bytes come, and then a failure: the lines that are whole are answered."""
+    """Commands of which `n - 1` bytes arrive before a failure: the complete lines are answered."""
     given, plain = trial.given.given, trial.plain
 
     def judge(place: int, came: Came) -> Optional[str]:
@@ -101,13 +101,13 @@ def failing_reads(trial: Trial) -> None:
             return wants(1, NOT_READ, plain.output[: trial.ends[min(lines, len(trial.ends) - 1)]], came)
         return trial.is_same(place, came)
 
-    # An interrupted read of commands is one that failed.
+    # An interrupted read of commands counts as failed.
     trial.each(f"{READ} fails once", fails(READ, errno.EIO, most=1), judge)
     trial.each(f"{READ} is interrupted from then on", fails(READ, errno.EINTR, ALWAYS, most=1), judge)
 
 
 def failing_writes(trial: Trial) -> None:
-    """Replies of which `n - 1` bytes go out, and then a failure, or no byte more: nothing is written again."""
+    """Replies of which `n - 1` bytes are written before a failure or the end of writing: nothing is written again."""
 
     def judge(place: int, came: Came) -> Optional[str]:
         if came.calls[WRITE] != place:
@@ -116,13 +116,13 @@ def failing_writes(trial: Trial) -> None:
 
     trial.each(f"{WRITE} fails", fails(WRITE, errno.ENOSPC, most=1), judge)
     trial.each(f"{WRITE} takes no byte", fails(WRITE, 0, most=1), judge)
-    # An interrupted write is one that failed; help alone is written by std, which makes such a write again.
+    # An interrupted write counts as failed; only help is written by std, which repeats such a write.
     again = trial.is_same if "--help" in trial.given.words else judge
     trial.each(f"{WRITE} is interrupted", fails(WRITE, errno.EINTR, most=1), again)
 
 
 def failing_files(trial: Trial) -> None:
-    """Opening, asking for the length and reading, each of which names its file; no memory is another fault."""
+    """Opening, querying the length and reading, each of which names its file; out of memory is a fault of its own."""
     faults = {unreadable(name) for name in NAMES}
 
     def judge(_: int, came: Came) -> Optional[str]:
@@ -135,7 +135,7 @@ def failing_files(trial: Trial) -> None:
 
 
 def failing_ends(trial: Trial) -> None:
-    """What does not matter: a file that is not closed well, and a fault that cannot be written."""
+    """Failures without effect: closing a file, and writing a fault."""
     plain = trial.plain
 
     def judge(place: int, came: Came) -> Optional[str]:
@@ -146,7 +146,7 @@ def failing_ends(trial: Trial) -> None:
 
 
 def early_ends(trial: Trial) -> None:
-    """Standard input that ends at each byte is answered as one that has no more."""
+    """Standard input that ends at each byte is answered like a shorter one."""
     given = trial.given.given
 
     def judge(place: int, came: Came) -> Optional[str]:

@@ -1,11 +1,11 @@
 /* A library that is preloaded before an unchanged program. Before `main` it waits for orders; for each it runs the program
-   in a child, refuses the requests for memory or answers the calls of devices that the order names, and reports the end.
+   in a child, refuses the memory requests or answers the device calls that the order names, and reports the end.
 
    HOSTILE_ORDERS and HOSTILE_REPORTS are the numbers of the pipes for orders and reports. Standard input is read from its
    start in each run, and standard output and standard error are emptied before it: all three are files.
 
-   A request is a call of malloc, calloc, realloc or one with an alignment, counted from 1 from where this library is
-   ready: what the loader asks for before is not seen. Giving memory back is never refused. */
+   A request is a call of malloc, calloc, realloc or one with an alignment, counted from 1 once this library is
+   ready: earlier requests of the loader are not seen. Freeing memory is never refused. */
 
 #include "system.h"
 
@@ -30,7 +30,7 @@ static struct order order;
 static struct report *report;
 static int running;
 
-/* Requests for memory */
+/* Memory requests */
 
 static int is_refused(void) {
     if (!running) return 0;
@@ -58,7 +58,7 @@ int posix_memalign(void **result, number align, number size) {
     return 0;
 }
 
-/* Calls of devices */
+/* Device calls */
 
 static int is_answered(enum call call) {
     number place = ++report->calls[call];

@@ -1,4 +1,4 @@
-"""Each request for memory refused in turn: alone, and with all later ones."""
+"""Each memory request refused in turn: alone, and with all later ones."""
 
 import re
 from typing import Callable, List, Optional, Sequence, Tuple
@@ -10,17 +10,17 @@ from hostile.suite import Suite, Wrong
 AT_A_LINE = re.compile(rb"pespbench: out of memory at line (\d+)\n")
 IN_A_FILE = re.compile(rb"pespbench: (activities|fixed|times) file, record (\d+): out of memory\n")
 FILES = [b"activities", b"fixed", b"times"]
-# Where there are more requests, some of them are tried, spread over all, but where all are asked for.
+# The number of requests that are tried, spread over all of them, unless all are requested.
 MOST_REQUESTS = 1_000
 TRIED_REQUESTS = 100
 
 
-# Where memory was wanted, as numbers that grow with the work.
+# The places where memory ran out, as numbers that grow with the work.
 Place = Tuple[int, int, int]
 
 
 def place_of(came: Came, plain: Came, ends: Sequence[int]) -> Optional[Place]:
-    """Where a run says that memory was wanted, as numbers that grow with the work; None where it says it wrongly."""
+    """The place where a run reports that memory ran out, as a number that grows with the work; None if the report is invalid."""
     line, record = AT_A_LINE.fullmatch(came.error), IN_A_FILE.fullmatch(came.error)
     if came.status != 1:
         return None
@@ -34,7 +34,7 @@ def place_of(came: Came, plain: Came, ends: Sequence[int]) -> Optional[Place]:
 
 
 def judge(came: Came, plain: Came, ends: Sequence[int], before: Place) -> Tuple[Optional[str], Place]:
-    """What is wrong with a run, if anything, and how far its work came."""
+    """The fault of a run, if any, and how far its work progressed."""
     if came.told() == plain.told():
         return None, before
     place = place_of(came, plain, ends)

@@ -1,4 +1,4 @@
-"""What the program is run on: a command line, its files and its commands."""
+"""The inputs of the program: a command line, its files and its commands."""
 
 import dataclasses
 import re
@@ -81,7 +81,7 @@ optimum
 adopt
 dump"""
 
-# Two trains on a round trip of a day, and times, windows and replies that there are at that period alone.
+# Two trains on a round trip of a day, with times, windows and replies that exist only at that period.
 LONG = [b"1; 1; 2; 3; 5; 2\n2; 2; 1; 1434; 1436; 1\n", b"1; 1439\n", b"1; 1438\n2; 3\n"]
 LONG_COMMANDS = b"""# a period of a day
 tensions
@@ -134,12 +134,12 @@ def example(folder: Path) -> Input:
 
 
 def words_of_two(folder: Path) -> List[str]:
-    """The words for the two trains, whose files are written into the folder."""
+    """Writes the files of the two trains into the folder, and returns the words for them."""
     return words_of_files(folder, 10, NAMES, [TWO, TWO_FIXED, TWO_TIMES])
 
 
 def words_of_files(folder: Path, period: int, names: Sequence[str], texts: Sequence[bytes]) -> List[str]:
-    """The words for activities, fixed times and times, whose files are written into the folder by these names."""
+    """Writes activities, fixed times and times into the folder by these names, and returns the words for them."""
     for name, text in zip(names, texts):
         (folder / name).write_bytes(text)
     activities, fixed, times = names
@@ -147,7 +147,7 @@ def words_of_files(folder: Path, period: int, names: Sequence[str], texts: Seque
 
 
 def drawn_search(folder: Path, events: int) -> Input:
-    """A network whose search has some hundred nodes, asked by a try, for the optimum, and after edits."""
+    """A network whose search has some hundred nodes, with a `try`, with `optimum`, and after edits."""
     numbers = Numbers(events)
     times = [numbers.below(PERIOD) for _ in range(events)]
     rows = list(activity_rows(numbers, 2 * events, times, True, (2, 4)))
@@ -168,7 +168,7 @@ def large_check(folder: Path, rows: int) -> Input:
 
 
 def inputs(folder: Path) -> Iterator[Input]:
-    """All that the program is run on, those first that take longest."""
+    """All inputs of the program, the longest first."""
     words = words_of_two(folder)
     long_words = words_of_files(folder, GREATEST_PERIOD, [f"long.{name}" for name in NAMES], LONG)
     yield Input("too many lines", [], folder, b"\n" * 999_999 + b"cost\ncost")
@@ -194,7 +194,7 @@ def has_reply(line: bytes) -> bool:
 
 
 def ends_of_replies(given: bytes, output: bytes) -> List[int]:
-    """How many bytes are out once the first lines are answered, for each number of lines that are answered whole."""
+    """How many bytes are written once the first lines are answered, for each number of completely answered lines."""
     ends, place = [0], 0
     for line in re.split(b"\n", given):
         if place < len(output) and has_reply(line):

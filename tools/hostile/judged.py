@@ -1,4 +1,4 @@
-"""Wrong programs as the tests would see them: each way to go wrong has to be found."""
+"""Wrong programs, as the tests see them: each kind of fault must be found."""
 
 from hostile.calls import judge_call
 from hostile.damage import fault_of_commands
@@ -11,7 +11,7 @@ GIVEN = b"add event 1\n\ndomains\ncost"
 OUTPUT = b"ok\ndomains 1\n1: 0 1\ncost 0\n"
 AT = b"pespbench: out of memory at line %d\n"
 
-# What a run wrote with a request refused, and whether that is right.
+# The output of a run with a request refused, and whether that is right.
 REFUSED = {
     "the whole output": (0, OUTPUT, b"", True),
     "before the first line": (1, b"", AT % 0, True),
@@ -32,7 +32,7 @@ REFUSED = {
     "a signal": (-11, b"", b"", False),
     "another reply": (0, b"ok\ninfeasible\ncost 0\n", b"", False),
 }
-# What a run wrote over damaged commands, and whether that is right.
+# The output of a run over damaged commands, and whether that is right.
 DAMAGED = {
     "the whole output": (0, OUTPUT, b"", True),
     "a fault of a file": (1, b"", b"pespbench: activities file, record 2: wrong number of fields\n", True),
@@ -47,7 +47,7 @@ DAMAGED = {
 
 CALL = b"case Instance::apply\nbefore\na\nanswer\nOk(())\nafter\na\nb\n"
 MADE_AGAIN = b"case Instance::apply\nbefore\na\nanswer\n%s\nafter\n%s\nagain\n%s\nafter\n%s\n"
-# What the program of calls wrote with a request refused, and whether that is right.
+# The output of the program of calls with a request refused, and whether that is right.
 CALLS = {
     "the whole output": (0, CALL, b"", True),
     "want of memory": (0, MADE_AGAIN % (b"Err(Memory)", b"a", b"Ok(())", b"a\nb"), b"", True),
@@ -61,7 +61,7 @@ CALLS = {
 }
 SEARCH = b"case Bench::optimum\nbefore\na\nknown nothing\nnodes 0\nanswer\nfound 8\nafter\na\nknown 8\nnodes 2\n"
 SEARCHED_AGAIN = b"case Bench::optimum\nbefore\na\nknown nothing\nnodes 0\nanswer\nErr(Memory)\nafter\n%sagain\nfound 8\nafter\na\nknown 8\nnodes 2\n"
-# The same of a call that searches, by what it leaves where it is refused memory.
+# The same for a call that searches, by its after-state when it is refused memory.
 LEFT = {
     "nothing": (b"a\nknown nothing\nnodes 0\n", True),
     "the number of nodes": (b"a\nknown nothing\nnodes 2\n", True),

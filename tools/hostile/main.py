@@ -1,4 +1,4 @@
-"""Runs each part on each input, several side by side."""
+"""Runs each part on each input, several in parallel."""
 
 import argparse
 import concurrent.futures

@@ -1,4 +1,4 @@
-"""Runs of one command line in quick succession, each with what is refused in it."""
+"""Runs one command line many times in quick succession, each with some requests or calls refused."""
 
 import dataclasses
 import os
@@ -9,18 +9,18 @@ import subprocess
 from typing import Dict, Iterator, Sequence, Tuple
 
 SOURCE = pathlib.Path(__file__).resolve().parent / "faults.c"
-# In the order of the library's own list.
+# The order of the library's own list.
 CALLS = ["read of commands", "read of a file", "write of replies", "write of a fault", "open", "length", "close"]
-# Stands for no end: each later one too.
+# Means no end: each later one too.
 ALWAYS = 2**64 - 1
-# A run that takes more is ended, and is a failed case.
+# A run that takes longer is ended, and is a failed case.
 SECONDS = 60
 REPORT = struct.Struct(f"<4Q{len(CALLS)}Q")
 
 
 @dataclasses.dataclass(frozen=True)
 class Order:
-    """What is refused in a run; nothing where nothing is said. Numbers count from 1."""
+    """The refusals of a run; by default nothing is refused. Numbers count from 1."""
 
     refuse_from: int = 0
     refuse_to: int = 0
@@ -40,7 +40,7 @@ class Order:
 
 @dataclasses.dataclass(frozen=True)
 class Came:
-    """What came of a run: how it ended (below 0: by that signal), what it wrote, and what it asked for."""
+    """The result of a run: how it ended (below 0: by that signal), its output, and its requests."""
 
     status: int
     output: bytes
@@ -78,7 +78,7 @@ def whole(device: int) -> bytes:
 
 
 class Served:
-    """A command line whose program waits, before its `main`, to be run again and again."""
+    """A command line whose program waits, before its `main`, to be run repeatedly."""
 
     def __init__(self, library: pathlib.Path, words: Sequence[object], folder: pathlib.Path, given: bytes = b"") -> None:
         self.devices = [os.memfd_create(name) for name in ["commands", "replies", "fault"]]

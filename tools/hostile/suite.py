@@ -1,4 +1,4 @@
-"""What a part of the tests of hostile use is run with, and what it finds."""
+"""The options of a part of the tests of hostile use, and its results."""
 
 import pathlib
 from typing import List, Sequence, Tuple
@@ -6,14 +6,14 @@ from typing import List, Sequence, Tuple
 from hostile.served import Came
 from tests.harness import short
 
-# A run that went wrong: where, what is wrong, and what came of it.
+# A run that went wrong: where, its fault, and its result.
 Wrong = Tuple[object, str, Came]
-# So many of a case are shown.
+# The most shown for a case.
 SHOWN = 5
 
 
 class Suite:
-    """What a part is run with, and what it found: cases that passed and failed, and how much was tried."""
+    """The options of a part, and its results: passed and failed cases, and the amount of work."""
 
     def __init__(self, program: pathlib.Path, library: pathlib.Path, is_whole: bool) -> None:
         self.program, self.library, self.is_whole = program, library, is_whole
@@ -22,7 +22,7 @@ class Suite:
         self.notes: List[str] = []
 
     def found(self, name: str, runs: int, wrong: Sequence[Wrong]) -> None:
-        """One case that tried so much; each wrong run has a place, what is wrong, and what came."""
+        """One case with this amount of work; each wrong run has a place, a fault, and its result."""
         self.runs += runs
         if not wrong:
             self.passed += 1

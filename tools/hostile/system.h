@@ -1,5 +1,5 @@
-/* What the library takes of the system, declared here: so it builds with any C compiler for Linux on x86-64, and without
-   the headers of one. */
+/* The system's declarations that the library needs: so it builds with any C compiler for Linux on x86-64, and without
+   its headers. */
 
 typedef unsigned long number;
 

@@ -1,4 +1,4 @@
-"""The parts of tools/measure. The Python package draws networks, and writes them for solvers of others."""
+"""The parts of tools/measure. The Python package generates networks, and exports them for other solvers."""
 
 import sys
 

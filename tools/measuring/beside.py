@@ -1,4 +1,4 @@
-"""What the program takes beside a plain one of the same algorithms, which tools/measuring/plain has; their replies are compared."""
+"""Costs of the program compared with a plain one of the same algorithms, tools/measuring/plain; their replies are compared."""
 
 import pathlib
 import random
@@ -18,21 +18,21 @@ from tests.streams import drawn_command
 FOLDER = pathlib.Path(__file__).resolve().parent / "plain"
 PLAIN = FOLDER / "out/plain"
 FORMS = [Form("ascending", activities_ascend=True), Form("in no order")]
-# As many events and activities as a published network has.
+# The numbers of events and activities of a published network.
 SPARSE_EVENTS, SPARSE_ROWS = 3_664, 6_385
 SMALL_EVENTS, SMALL_ROWS = 200, 1_000
 STREAMS, LINES = 200, 60
-# The commands that the plain program has, and the periods that it knows.
+# The commands of the plain program, and the periods that it supports.
 COMMANDS = ["domain", "domains", "tensions", "span", "weight", "fix", "unfix", "window", "add activity", "drop activity", "ends"]
 PERIODS = [2, 3, 5, 7, 10, 12, 24, 60]
 
 
-# A figure: what it is, how much, and the replies that are compared.
+# A figure: its name, its value, and the replies to compare.
 Figure = Tuple[str, float, str]
 
 
 def plain_program() -> Optional[pathlib.Path]:
-    """The plain program, built where it is older than its sources; None where there is no rustc."""
+    """The plain program, rebuilt if it is older than its sources; None without rustc."""
     sources = list(FOLDER.glob("*.rs"))
     if not PLAIN.exists() or PLAIN.stat().st_mtime < max(path.stat().st_mtime for path in sources):
         if not shutil.which("rustc"):
@@ -58,7 +58,7 @@ def timed(network: Network) -> List[object]:
 
 
 def checks(program: pathlib.Path, folder: pathlib.Path) -> Iterator[Figure]:
-    """Each check: what it is, its instructions for each activity, and its replies."""
+    """Each check: its name, its instructions for each activity, and its replies."""
     start = count([program, "--check"], folder / "callgrind.empty")
     for form in FORMS:
         check, *_ = check_of(program, folder, MOST_ACTIVITIES, form)
@@ -75,7 +75,7 @@ def openings(program: pathlib.Path, folder: pathlib.Path) -> Iterator[Figure]:
 
 
 def questions(program: pathlib.Path, folder: pathlib.Path) -> Iterator[Figure]:
-    """A line of a reply, where each event can be at every minute."""
+    """A domain line of an event that can be at every minute."""
     network = Network(program, folder, SMALL_ROWS, SMALL_EVENTS, is_never)
     network.words = timed(network)
     start = network.takes([])
@@ -103,16 +103,16 @@ def edits(program: pathlib.Path, folder: pathlib.Path) -> Iterator[Figure]:
 
 
 def is_empty(replies: str) -> bool:
-    """Whether all domains that are told are empty."""
+    """Whether all domains in the replies are empty."""
     return all(len(line.split()) == 1 for line in replies.splitlines() if ":" in line)
 
 
 def emptying(program: pathlib.Path, folder: pathlib.Path) -> Iterator[Figure]:
-    """Activities turned round, each alone, with which no event can be at any minute; each is turned back before the next."""
+    """Activities reversed, each alone, with which no event can be at any minute; each is restored before the next."""
     network = Network(program, folder, SMALL_ROWS, SMALL_EVENTS, is_fixed)
     turned = [(f"ends {name} {last} {first}", f"ends {name} {first} {last}") for name, first, last, *_ in some_of(network.rows)]
     lines = [line for away, back in turned if is_empty(network.answers([away, "domains"])) for line in (away, back)]
-    # The first line has the opening.
+    # The first line includes the opening.
     each = network.takes_each(["weight 0 0", *lines])[1:]
     yield "`ends` that empty the rows", mean(each[::2]), network.answers([*lines, "domains"])
     yield "and back", mean(each[1::2]), ""
@@ -125,7 +125,7 @@ def memories(program: pathlib.Path, folder: pathlib.Path) -> Iterator[Figure]:
 
 
 def drawn_stream(draw: random.Random, folder: pathlib.Path) -> List[object]:
-    """The words of a drawn network with times and fixed times, and lines of the commands that the plain program has."""
+    """The words of a random network with times and fixed times, and lines of the commands that the plain program has."""
     period, events = draw.choice(PERIODS), draw.randint(1, 6)
     table: List[Row] = []
     for name in draw.sample(range(1, 12), draw.randint(1, 10)):
@@ -147,7 +147,7 @@ def drawn_stream(draw: random.Random, folder: pathlib.Path) -> List[object]:
 
 
 def compare(name: str, replies: str, plain_replies: str) -> None:
-    """Ends where the two programs differ, with the first line that does."""
+    """Ends if the two programs differ, with the first line that does."""
     if replies == plain_replies:
         return
     for number, lines in enumerate(zip(replies.splitlines(), plain_replies.splitlines()), 1):
@@ -167,7 +167,7 @@ def compare_streams(program: pathlib.Path, plain: pathlib.Path, folder: pathlib.
 
 
 def print_beside(program: pathlib.Path, folder: pathlib.Path, streams: int) -> None:
-    """Each figure of the program, and of the plain one where it is there, with their ratio."""
+    """Each figure of the program, and of the plain one if it exists, with their ratio."""
     plain = plain_program()
     print(f"\n{'instructions':<34} {'here':>11}" + (f" {'plain':>11} {'times':>7}" if plain else ""))
     for work in [checks, openings, questions, edits, emptying, memories]:

@@ -1,4 +1,4 @@
-"""What a check takes, and reading alone."""
+"""The cost of a check, and of reading alone."""
 
 import argparse
 import dataclasses
@@ -15,7 +15,7 @@ COUNTED = ["check", "reading"]
 
 @dataclasses.dataclass(frozen=True)
 class Form:
-    """How the files of a check are made."""
+    """The options of a check's files."""
 
     name: str
     activities_ascend: bool = False
@@ -63,7 +63,7 @@ def check_of(program: Path, folder: Path, rows: int, form: Form) -> Tuple[List[o
 
 
 def measure(program: Path, folder: Path, rows: int) -> Dict[str, int]:
-    """What one number of activities takes."""
+    """The figures for one number of activities."""
     check, reading, events = check_of(program, folder, rows, UNSORTED)
     wanted = f"pespbench: times file, record {events + 1}: wrong number of fields\n"
     if run(reading, 1).stderr != wanted:
@@ -78,7 +78,7 @@ def measure(program: Path, folder: Path, rows: int) -> Dict[str, int]:
 
 
 def profile_of(folder: Path, rows: int) -> Path:
-    """Where the profile of the check of so many rows goes."""
+    """The file for the profile of a check with this many rows."""
     return folder / f"callgrind.{rows}"
 
 

@@ -7,7 +7,7 @@ from pathlib import Path
 from typing import List, Sequence, Union
 
 
-# The words of a command, each told by its text, and the file that its standard input is; none is an empty one.
+# The words of a command, each converted to text, and the file of its standard input; none is an empty one.
 Words = Sequence[object]
 Given = Union[Path, str, None]
 
@@ -21,20 +21,20 @@ def run(command: Words, status: int = 0, given: Given = None) -> "subprocess.Com
 
 
 def count(words: Words, profile: Path, status: int = 0, given: Given = None) -> int:
-    """The instructions of one run, whose profile goes to a file."""
+    """The instructions of one run, whose profile is written to a file."""
     counted = run(["valgrind", "--tool=callgrind", f"--callgrind-out-file={profile}", *words], status, given)
     return number_in(r"Collected : (\d+)", counted.stderr)
 
 
 def number_in(pattern: str, text: str) -> int:
-    """The number that a pattern's group has in a text that has it."""
+    """The number in a pattern's group in a text that contains it."""
     found = re.search(pattern, text, re.MULTILINE)
     assert found is not None
     return int(found[1])
 
 
 def count_replies(words: Words, profile: Path, given: Given) -> List[int]:
-    """The instructions of one run before each of its replies, from the reply before on, where each is one write."""
+    """The instructions of one run between replies, each of which is one write."""
     run(["valgrind", "--tool=callgrind", f"--callgrind-out-file={profile}", "--dump-before=write", *words], 0, given)
     counts: List[int] = []
     while (part := profile.with_name(f"{profile.name}.{len(counts) + 1}")).exists():
@@ -44,6 +44,6 @@ def count_replies(words: Words, profile: Path, given: Given) -> List[int]:
 
 
 def peak(words: Words, path: Path, status: int = 0, given: Given = None) -> int:
-    """The kB of memory of one run, at their most."""
+    """The peak memory of one run, in kB."""
     run(["/usr/bin/time", "-q", "-f", "%M", "-o", path, *words], status, given)
     return int(path.read_text())

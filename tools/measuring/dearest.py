@@ -1,4 +1,4 @@
-"""What the dearest edits take: on the greatest network, on a star, on loops at one event and on activities between two events."""
+"""The cost of the dearest edits: on the greatest network, on a star, on loops at one event and on activities between two events."""
 
 from pathlib import Path
 from typing import Iterator, List, Optional, Sequence, Tuple
@@ -34,7 +34,7 @@ def between_two() -> List[Row]:
 
 
 def cases() -> Iterator[Tuple[str, int, List[Row], List[Tuple[str, List[str]]]]]:
-    """Each network with its period, its rows and lists of lines, which are measured one more at a time."""
+    """Each network with its period, its rows and lists of lines, which are measured with one more line at a time."""
     fixing: List[Tuple[str, List[str]]] = [("fix", ["fix 0 0"]), ("unfix", ["unfix 0"])]
     fixing += [("fix once more", ["fix 0 0"]), ("fix at another time", ["fix 0 1"])]
     yield f"drawn, period {LONGER_PERIOD}", LONGER_PERIOD, drawn(LONGER_PERIOD), fixing
@@ -56,7 +56,7 @@ def seconds_of(program: Path, folder: Path, period: int, lines: Sequence[str]) -
 
 
 def print_dearest(programs: Sequence[Path], folder: Path) -> None:
-    """Seconds of a processor of an opening and of edits after it, of each program beside the other."""
+    """Processor seconds of an opening and of edits after it, of each program."""
     print(f"\nseconds of a processor, at most {SECONDS}, and kB, {MOST_ACTIVITIES} activities")
     names = ["before", "now"][-len(programs) :]
     print(f"{'network':<24} {'edit':<22}" + "".join(f" {name:>9} {'kB':>8}" for name in names))

@@ -1,4 +1,4 @@
-"""Networks whose optimum is measured, each with its name: drawn regions and pieces of them, and what no region is like."""
+"""Networks whose optimum is measured, each with its name: random regions and pieces of them, and other kinds."""
 
 import sys
 from typing import TYPE_CHECKING, Dict, Iterable, Iterator, List, Mapping, NamedTuple, Sequence, Tuple
@@ -31,7 +31,7 @@ GREATEST = (20_000, 100_000, 120)
 
 
 class Drawn(NamedTuple):
-    """A network, and whether it is more than solvers are asked and than an optimum is sought of."""
+    """A network, and whether it is too large for solvers and for its optimum."""
 
     name: str
     rows: List[Row]
@@ -42,7 +42,7 @@ class Drawn(NamedTuple):
 
 
 def draw(seed: int, feasible: bool, widths: Tuple[int, int], lines: int = LINES[-1]) -> "Region":
-    """A region of so many lines."""
+    """A region of this many lines."""
     sys.path.insert(0, str(TOP / "python"))
     from pespbench.drawn import draw_region
 
@@ -62,13 +62,13 @@ def piece_of(region: "Region", lines: int) -> Tuple[List[Row], Dict[int, int]]:
 
 
 def some_fixed(times: Mapping[int, int]) -> List[Tuple[int, int]]:
-    """Events from all over, with their times."""
+    """Events spread over all, with their times."""
     events = sorted(times)
     return [(event, times[event]) for event in events[:: max(1, len(events) // FIXED)][:FIXED]]
 
 
 def parts_of(count: int) -> Iterator[Row]:
-    """Pairs of events that nothing joins to one another, each with an activity there and one back."""
+    """Pairs of events without connections to one another, each with an activity there and one back."""
     numbers = Numbers(count)
     for part in range(count):
         first, last = 2 * part + 1, 2 * part + 2
@@ -88,25 +88,25 @@ def joined(numbers: Numbers, pairs: Iterable[Tuple[int, int]], events: int) -> I
 
 
 def grid(side: int) -> Iterator[Row]:
-    """Events in rows and columns, each joined to the next one of both."""
+    """Events in rows and columns, each connected to the next one of both."""
     events = side * side
     beside = [(event, event + 1) for event in range(events) if (event + 1) % side]
     return joined(Numbers(side), beside + [(event, event + side) for event in range(events - side)], events)
 
 
 def tree(events: int) -> Iterator[Row]:
-    """Each event joined to one before it."""
+    """Each event connected to an earlier one."""
     numbers = Numbers(events)
     return joined(numbers, [(numbers.below(event), event) for event in range(1, events)], events)
 
 
 def longer(rows: Sequence[Row], factor: int) -> List[Row]:
-    """The same with spans so many times as long, for a period as much longer: it costs as much more."""
+    """The same with a period and spans longer by a factor: the cost rises by the same."""
     return [(name, first, last, lower * factor, upper * factor, weight) for name, first, last, lower, upper, weight in rows]
 
 
 def beside(regions: Sequence[List[Row]]) -> List[Row]:
-    """All of them in one network, which nothing joins."""
+    """All of them in one network, unconnected."""
     rows: List[Row] = []
     for region in regions:
         before, last = max((max(row[1:3]) for row in rows), default=0), len(rows)
@@ -115,7 +115,7 @@ def beside(regions: Sequence[List[Row]]) -> List[Row]:
 
 
 def met(seed: int, events: int, activities: int, widths: Tuple[int, int], period: int = PERIOD) -> List[Row]:
-    """Activities between any events, with spans as wide as at period 60 in proportion, all met by some times."""
+    """Activities between any events, with spans as wide in proportion as at period 60, all met by some times."""
     numbers = Numbers(seed)
     times = [numbers.below(period) for _ in range(events)]
     least, more = (max(1, width * period // PERIOD) for width in widths)
@@ -123,7 +123,7 @@ def met(seed: int, events: int, activities: int, widths: Tuple[int, int], period
 
 
 def regions() -> Iterator[Drawn]:
-    """The drawn regions of six lines and their pieces, with fixed times and without."""
+    """The random regions of six lines and their pieces, with fixed times and without."""
     for widths in WIDTHS:
         for feasible, seeds in [(True, SEEDS), (True, OTHER_SEEDS), (False, INFEASIBLE_SEEDS)]:
             for seed in seeds:
@@ -147,7 +147,7 @@ def larger() -> Iterator[Drawn]:
 
 
 def others() -> Iterator[Drawn]:
-    """What is no region, and regions at other periods: there a span is as much longer as the period."""
+    """Other networks, and regions at other periods: there a span is longer in proportion to the period."""
     for count in PARTS:
         yield Drawn(f"{count} parts of two events", list(parts_of(count)))
     for widths in WIDTHS:

@@ -1,4 +1,4 @@
-"""What files and commands take that somebody made to be dear, at three sizes each."""
+"""The cost of files and commands that were designed to be expensive, at three sizes each."""
 
 import math
 import sys
@@ -37,21 +37,21 @@ def reversed_rows(rows: int) -> str:
 
 
 def too_many_rows(size: int) -> str:
-    """More rows than the greatest period allows, where so many bytes hold as many."""
+    """More rows than the limit at the greatest period, if this many bytes contain them."""
     return text_of((name, 1, 1, 0, 59, 1) for name in range(size // len("000000; 1; 1; 0; 59; 1\n")))
 
 
 def repeated_rows(rows: int) -> str:
-    """The last row has the number of the first."""
+    """The last row repeats the number of the first."""
     return text_of((name % (rows - 1), 1, 1, 0, 59, 1) for name in range(rows))
 
 
 def fixed_rows(rows: int) -> str:
-    """Five rows an event: the first event that comes again is told."""
+    """Five rows an event: the first repeated event is reported."""
     return text_of((event % events_of(rows), 0) for event in range(rows))
 
 
-# A file of activities of so many bytes, and what is told of it.
+# A file of activities of this many bytes, and its fault.
 FILES: Dict[str, Tuple[Callable[[int], str], Optional[str]]] = {
     "one field": (lambda size: "1" * size, FAULT + "wrong number of fields\n"),
     "separators": (lambda size: ";" * size, FAULT + "wrong number of fields\n"),
@@ -63,9 +63,9 @@ FILES: Dict[str, Tuple[Callable[[int], str], Optional[str]]] = {
     "a comment": (lambda size: "#".ljust(size, "x"), NOTHING),
     "comments": (lambda size: "#\n" * (size // 2), NOTHING),
 }
-# A file of so many rows; the events have no time, so that the check is short.
+# A file of this many rows; the events have no time, so that the check is short.
 NETWORKS = {"at one event": at_one_event, "from one event": from_one_event, "ending alike": alike_rows, "numbers descending": reversed_rows}
-# A line given so many times to the network of one activity, and the reply to each.
+# A line repeated this often on the network of one activity, and the reply to each.
 COMMANDS = {
     "": "",
     "cost": "refused 11 event 1 has no time",
@@ -75,7 +75,7 @@ COMMANDS = {
 }
 
 
-# The words of a run, its commands, and what has to come of it, where that is known.
+# The words of a run, its commands, and its expected output, if known.
 Prepared = Tuple[List[object], Optional[Path], Optional[str]]
 Prepare = Callable[[int], Prepared]
 
@@ -90,7 +90,7 @@ class Table:
         print(f"{'growth':>9} {'peak kB':>9}")
 
     def measure(self, name: str, prepare: Prepare, status: int = 0) -> None:
-        """Each size of a kind: `prepare` makes the words, the commands and what has to come."""
+        """Each size of a kind: `prepare` returns the words, the commands and the expected output."""
         each: List[float] = []
         memory = 0
         for size in self.sizes:
@@ -164,6 +164,6 @@ def measure_lines(program: Path, folder: Path, sizes: Sequence[int]) -> None:
 
 
 def measure_hostile(program: Path, folder: Path, divisor: int = 1) -> None:
-    """Each table; a divisor makes all sizes smaller."""
+    """Each table; a divisor reduces all sizes."""
     for measure, sizes in [(measure_lines, LINES), (measure_networks, ROWS), (measure_files, BYTES)]:
         measure(program, folder, [size // divisor for size in sizes])

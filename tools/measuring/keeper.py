@@ -1,4 +1,4 @@
-"""What it takes to build the domains, to keep them through edits, and to visit a node of a search."""
+"""The cost of building the domains, of maintaining them through edits, and of visiting a node of a search."""
 
 import math
 import sys
@@ -19,7 +19,7 @@ Item = TypeVar("Item")
 
 
 class Network:
-    """A network of which all activities are met at its times, in files, and the words that open it."""
+    """A network all of whose activities are met at its times, in files, and the words that open it."""
 
     def __init__(
         self,
@@ -56,22 +56,22 @@ class Network:
         return count(self.words, self.profile, 0, self.lines)
 
     def takes_each(self, lines: Iterable[str]) -> List[int]:
-        """What each line takes that has one reply of a line; the first one has the opening too."""
+        """The cost of each line with a reply of one line; the first one includes the opening."""
         self.lines.write_text("".join(f"{line}\n" for line in lines))
         return count_replies(self.words, self.profile, self.lines)
 
     def reading(self) -> int:
-        """Ends at a faulty row of the fixed times, when the activities are read."""
+        """Ends at a faulty row of the fixed times, after reading the activities."""
         return count(self.reading_words, self.profile, 1)
 
     def pairs(self, lines: Sequence[str]) -> int:
-        """How many residues all domains have after the lines."""
+        """The number of residues in all domains after the lines."""
         replies = self.answers([*lines, "domains"]).splitlines()[len(lines) :]
         return sum(len(reply.split()) - 1 for reply in replies)
 
 
 def some_of(items: Sequence[Item]) -> Sequence[Item]:
-    """Items from all over a list."""
+    """Items spread over a list."""
     return items[:: max(1, len(items) // EDITS)][:EDITS]
 
 
@@ -81,7 +81,7 @@ def window_of(network: Network, event: int, length: int) -> str:
 
 
 def measure_windows(network: Network, events: Sequence[int], built: int) -> Dict[str, float]:
-    """What windows take: a narrow one where there was none, and then a wide one. NaN where the program knows none."""
+    """The cost of windows: a narrow one for an event without one, and then a wide one. NaN if the program has none."""
     narrow, wide = ([window_of(network, event, length) for event in events] for length in [NARROW, WIDE])
     if network.answers(narrow + wide) != "ok\n" * (len(narrow) + len(wide)):
         return {"window": math.nan, "wider": math.nan}
@@ -93,7 +93,7 @@ def measure_windows(network: Network, events: Sequence[int], built: int) -> Dict
 
 
 def measure_lone(program: Path, folder: Path, rows: int) -> float:
-    """What it takes that one residue comes back, which a window left out, where no event has a fixed time."""
+    """The cost of restoring one residue, which a window excluded, if no event has a fixed time."""
     network = Network(program, folder, rows, events_of(rows), lambda event: False)
     events = some_of(range(len(network.times)))
     narrowed = [f"window {event} {network.times[event]} {PERIOD - 1}" for event in events]
@@ -104,10 +104,10 @@ def measure_lone(program: Path, folder: Path, rows: int) -> float:
 
 
 def measure_edits(program: Path, folder: Path, rows: int) -> Dict[str, float]:
-    """What edits of one network take, above building it. But for each tenth event all have fixed times."""
+    """The cost of edits of one network, above building it. Nine of ten events have fixed times."""
     network = Network(program, folder, rows, events_of(rows), lambda event: event % EVENTS_OF_A_FREE_ONE)
     built = network.takes([])
-    # A span that is moved by a period admits what it admitted, so nothing moves, and all that it joins is counted anew.
+    # A span that is moved by a period admits the same, so nothing moves, and both its ends are recounted.
     spans = [f"span {name} {lower + PERIOD} {upper + PERIOD}" for name, _, _, lower, upper, _ in some_of(network.rows)]
     weights = [f"weight {name} {weight}" for name, *_, weight in some_of(network.rows)]
     free = some_of([event for event in range(len(network.times)) if event not in set(network.fixed)])
@@ -138,7 +138,7 @@ def measure_edits(program: Path, folder: Path, rows: int) -> Dict[str, float]:
 
 
 def measure_search(program: Path, folder: Path, events: int) -> Optional[float]:
-    """What a node of a search takes, pushes and pops among it."""
+    """The cost of a node of a search, including pushes and pops."""
     network = Network(program, folder, events * ACTIVITIES_OF_A_SEARCHED_EVENT, events, lambda event: False)
     if not network.answers([f"try {NODES}"]).startswith("stopped"):
         return None

@@ -1,4 +1,4 @@
-"""Runs with a limit of seconds of a processor."""
+"""Runs with a limit of processor seconds."""
 
 import os
 import resource
@@ -9,7 +9,7 @@ from typing import NamedTuple, Optional, Sequence, Union
 
 
 class Ran(NamedTuple):
-    """What was printed, the seconds of a processor, or none where it failed or they pass the limit, and the memory in kB."""
+    """The output, the processor seconds, or none if it failed or exceeded the limit, and the memory in kB."""
 
     printed: str
     seconds: Optional[float]
@@ -17,10 +17,10 @@ class Ran(NamedTuple):
 
 
 def run_limited(words: Sequence[object], given: Union[Path, str], told: Path, most: int) -> Ran:
-    """A run within so many seconds.
+    """A run within this many seconds.
 
-    Seconds of a processor, and not of a clock, so that a busy machine tells the same. The memory is told by /usr/bin/time,
-    since a process that Python begins has at first that of Python.
+    Processor seconds, and not clock time, so that load does not matter. /usr/bin/time reports the memory, since a process
+    that Python starts first has that of Python.
     """
     timed = ["/usr/bin/time", "-q", "-f", "%M", "-o", str(told), *map(str, words)]
     with open(given, "rb") as file, tempfile.TemporaryFile() as out:

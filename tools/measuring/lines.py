@@ -1,4 +1,4 @@
-"""What cheap lines in bulk take."""
+"""The cost of cheap lines in bulk."""
 
 import sys
 from pathlib import Path
@@ -6,7 +6,7 @@ from typing import Sequence
 
 from measuring.counting import count, run
 
-# What a run of 1,000,000 cheap lines should take at most for each, above the work of the command.
+# The aim for each of 1,000,000 cheap lines, above the work of the command.
 MOST_PER_LINE = 2_000
 # Cheap lines, with the reply to each.
 CHEAP = {
@@ -19,7 +19,7 @@ CHEAP = {
 
 
 def measure_lines(program: Path, folder: Path, line: str, lines: int, start: int) -> float:
-    """What each of so many lines takes, by the instructions above those of a run without lines."""
+    """The cost of each of this many lines, above that of a run without lines."""
     path = folder / "lines"
     path.write_text(f"{line}\n" * lines)
     reply = f"{CHEAP[line]}\n" if CHEAP[line] else ""

@@ -1,4 +1,4 @@
-"""What a move of an optimiser takes: a time set, and the cost told."""
+"""The cost of an optimiser's move: a time set, and the cost returned."""
 
 from pathlib import Path
 from typing import Sequence, Tuple
@@ -12,7 +12,7 @@ MOVES = 1_000
 
 
 def measure_moves(program: Path, folder: Path, events: int, rows: int) -> Tuple[float, float]:
-    """The instructions of a `time` and of a `cost` after it, where each event has a time."""
+    """The instructions of a `time` and of a `cost` after it, if each event has a time."""
     network, numbers = Network(program, folder, rows, events, lambda event: False), Numbers(events)
     timed = [f"time {event} {time}" for event, time in enumerate(network.times)]
     moves = [f"time {numbers.below(events)} {numbers.below(PERIOD)}" for _ in range(MOVES)]

@@ -29,7 +29,7 @@ class Numbers:
 
 
 def events_of(rows: int) -> int:
-    """How many events so many activities name."""
+    """The number of events that this many activities name."""
     return max(2, min(MOST_EVENTS, rows // ACTIVITIES_OF_AN_EVENT))
 
 
@@ -44,12 +44,12 @@ def activity_rows(
 ) -> Iterator[Row]:
     """Activities in no order of their numbers, which name each event; about a tenth of them are violated, or none.
 
-    A span has the first of the widths at least, and less than both of them together. All lead to the end, where one is given.
+    Widths of spans are at least the first, and less than the sum of both. All activities lead to the end, if one is given.
     """
     events = len(times)
     order = numbers.shuffled(events)
     for place in range(rows):
-        # The step has no factor in common with the modulus, a prime, so no number comes twice.
+        # The step is coprime to the modulus, a prime, so no number is repeated.
         name = (place * 7_919 + 17) % 1_000_003
         first, last = order[place % events], numbers.below(events)
         last = last if end is None else end
@@ -59,7 +59,7 @@ def activity_rows(
 
 
 def fixed_rows(numbers: Numbers, times: Sequence[int]) -> Iterator[Tuple[int, int]]:
-    """A fixed time for each tenth event; about a tenth of them are not kept."""
+    """A fixed time for each tenth event; about a tenth of them are violated."""
     for event in range(0, len(times), EVENTS_OF_A_FIXED_ONE):
         yield event, (times[event] + (0 if numbers.below(10) else 1)) % PERIOD
 

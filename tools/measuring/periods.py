@@ -1,4 +1,4 @@
-"""What a check, an opening, edits and a node of a search take at the greatest period, beside the same at 60."""
+"""The cost of a check, an opening, edits and a node of a search at the greatest period, compared with 60."""
 
 import sys
 from math import nan
@@ -17,12 +17,12 @@ EVENTS = most_events(GREATEST_PERIOD)
 WIDTHS = (8, 20)
 SEARCHED_EVENTS = 30
 SEARCHED_ROWS = 60
-# Of a search that goes on longer.
+# For a search that takes longer.
 NODES = 20
 
 
 class Shape(NamedTuple):
-    """A network of some form at a period; a span has the first of the widths at least, and less than both together."""
+    """A network of some form at a period; widths of spans are at least the first, and less than the sum of both."""
 
     rows: int
     events: int
@@ -30,13 +30,13 @@ class Shape(NamedTuple):
     widths: Tuple[int, int]
 
     def at_length(self, times: int) -> "Shape":
-        """The same at the greatest period, with spans so many times as wide."""
+        """The same at the greatest period, with spans wider by a factor."""
         first, more = self.widths
         return self._replace(period=GREATEST_PERIOD, widths=(times * first, times * more))
 
 
 GREATEST = Shape(ROWS, EVENTS, PERIOD, WIDTHS)
-# Of wide spans each residue that goes takes so much more that fewer are enough.
+# With wide spans each removed residue costs so much more that fewer are enough.
 SMALLER = Shape(ROWS // 20, EVENTS // 20, PERIOD, WIDTHS)
 
 
@@ -45,21 +45,21 @@ def network_of(program: Path, folder: Path, shape: Shape, fixed: Callable[[int],
 
 
 def measure_check(network: Network, folder: Path, shape: Shape) -> float:
-    """Of a check whose times are those at which all is met: instructions for each activity."""
+    """A check whose times meet everything: instructions for each activity."""
     path = folder / "times.period"
     path.write_text(text_of(enumerate(network.times)))
     return count([*network.words, "--check", "--times", path], network.profile) / shape.rows
 
 
 def measure_edits(network: Network, shape: Shape) -> Dict[str, float]:
-    """What an opening and edits take, where but for each tenth event all have fixed times; all in one run."""
+    """The cost of an opening and of edits, with fixed times for nine of ten events; all in one run."""
     spans = [f"span {name} {lower + shape.period} {upper + shape.period}" for name, _, _, lower, upper, _ in some_of(network.rows)]
     free = some_of([event for event in range(shape.events) if event % EVENTS_OF_A_FREE_ONE == 0])
     fix, unfix = [f"fix {event} {network.times[event]}" for event in free], [f"unfix {event}" for event in free]
     edits = [*spans, *fix, *unfix]
     if network.answers(["weight 0 0", *edits])[-3 * len(edits) :] != "ok\n" * len(edits):
         sys.exit(f"tools/measure: an edit at period {shape.period} is refused")
-    # A refusal, with which the opening is told.
+    # A refusal, whose reply marks the end of the opening.
     opening, *each = network.takes_each(["weight 0 0", *edits])
     return {
         "opening, for each activity": (opening - network.reading()) / shape.rows,
@@ -71,7 +71,7 @@ def measure_edits(network: Network, shape: Shape) -> Dict[str, float]:
 
 
 def measure_node(program: Path, folder: Path, shape: Shape) -> float:
-    """A node of a search among the first ones, with its push and its pop, and with what comes before the first."""
+    """A node of a search among the first ones, with its push and its pop, and with the work before the first."""
     network = Network(program, folder, SEARCHED_ROWS, SEARCHED_EVENTS, lambda event: False, None, shape.widths, shape.period)
     lines = ["weight 0 0", f"try {NODES}"]
     if network.answers(lines).splitlines()[-1] != "stopped none":
@@ -102,7 +102,7 @@ def most_ratios(times: int, first: Mapping[str, float], last: Mapping[str, float
 
 
 def print_beside(program: Path, folder: Path, shape: Shape, times: int) -> None:
-    """The figures at both periods, the greater divided by the smaller, and by how much they may grow."""
+    """The figures at both periods, their ratio, and its bound."""
     first, last = (measure_shape(program, folder, each) for each in (shape, shape.at_length(times)))
     most = most_ratios(times, first, last)
     print(f"\n{shape.events} events and {shape.rows} activities, with spans {times} times as wide at period {GREATEST_PERIOD}")

@@ -1,4 +1,5 @@
-"""What the optimum of drawn regions takes, of their pieces, and of other networks; and what solvers of others take where they are here."""
+"""The cost of the optimum of random regions, of their pieces, and of other networks; and that of other solvers if they are
+installed."""
 
 from pathlib import Path
 from typing import Iterator, List, NamedTuple, Optional, Sequence, Tuple
@@ -10,12 +11,12 @@ from measuring.solvers import Figures, columns, solved, stands_at
 
 SECONDS = 60
 NODES = 1_000
-# The nodes of a step of a search that does not end, and the seconds after which it is told how it stands.
+# The nodes of a step of a search that does not end, and the seconds after which its state is reported.
 STEP, MOMENTS = 500, [10, 60]
 
 
 class Asked(NamedTuple):
-    """A network in files, and the programs that are asked."""
+    """A network in files, and the programs to run."""
 
     programs: Sequence[Path]
     folder: Path
@@ -23,7 +24,7 @@ class Asked(NamedTuple):
     seconds: int
 
     def ask(self, program: Path, line: str, most: int) -> Ran:
-        """What the program tells to one line."""
+        """The program's reply to one line."""
         activities, times, lines = (self.folder / name for name in ["activities", "fixed", "lines"])
         activities.write_text(text_of(self.network.rows))
         times.write_text(text_of(self.network.fixed))
@@ -35,18 +36,19 @@ class Asked(NamedTuple):
         return self.ask(self.programs[-1], f"try {NODES}", self.seconds)
 
     def least(self) -> Optional[Ran]:
-        """The seconds to the least cost alone, where the workbench of tools/search_without_proof is asked, which tells it."""
+        """The seconds to the least cost alone, if the program is the workbench of tools/search_without_proof, which reports it."""
         ran = self.ask(self.programs[-1], "least", self.seconds)
         return None if ran.printed.startswith("fault") else ran
 
     def optima(self, least: Optional[Ran]) -> List[Ran]:
-        """What each program takes for the first timetable of least cost; the last one is not asked again where the least cost takes too long."""
+        """Each program's seconds for the first timetable of least cost; the last one is skipped if the least cost takes too long.
+        """
         ran = [self.ask(program, "optimum", self.seconds) for program in self.programs[:-1]]
         takes_too_long = least is not None and least.seconds is None
         return [*ran, Ran("", None, 0) if takes_too_long else self.ask(self.programs[-1], "optimum", self.seconds)]
 
     def stands(self) -> Iterator[Tuple[int, str]]:
-        """The best cost and the bound at some moments, which that tells too: what is told last before each."""
+        """The best cost and the bound at some moments, which that workbench reports too: its last report before each."""
         moments = [moment for moment in MOMENTS if moment <= self.seconds]
         printed = self.ask(self.programs[-1], f"steps {STEP}", max(moments, default=0) + 1).printed
         steps = [line.split()[1:] for line in printed.splitlines() if line.startswith("step")]
@@ -56,7 +58,7 @@ class Asked(NamedTuple):
 
 
 def answer_of(*told: Optional[Ran]) -> str:
-    """The least cost that some run tells, or that there is none."""
+    """The least cost that some run returns, or that there is none."""
     for words in (ran.printed.split() for ran in told if ran):
         if words[:1] in (["optimum"], ["least"]):
             return "infeasible" if words[1] == "none" else words[1]
@@ -74,14 +76,14 @@ def solver_figures(asked: Asked, formulations: Sequence[str]) -> Figures:
 
 
 def print_stands(asked: Asked, figures: Figures) -> None:
-    """How a search that did not end stands at some moments, beside cbc's."""
+    """The state of a search that did not end at some moments, compared with cbc's."""
     log = next((figure.log for (solver, _), figure in figures.items() if solver == "cbc"), None)
     for moment, ours in asked.stands():
         print(f"    best and bound after {moment} s: {ours}" + ("" if log is None else f"; cbc {stands_at(log, moment)}"), flush=True)
 
 
 def print_network(asked: Asked, formulations: Sequence[str]) -> None:
-    """One row, with lines under it where the search did not end or where a solver tells something else."""
+    """One row, with lines under it if the search did not end or if a solver returns another cost."""
     network, most = asked.network, asked.seconds
     least = asked.least() if network.is_searched else None
     optima = asked.optima(least) if network.is_searched else []
@@ -102,7 +104,7 @@ def print_network(asked: Asked, formulations: Sequence[str]) -> None:
 
 
 def print_regions(programs: Sequence[Path], folder: Path, part: str, formulations: Sequence[str], seconds: int) -> None:
-    """The figures of the networks whose names have the part, with those of the solvers that are here where they are asked for."""
+    """The figures of the networks whose names have the part, with those of the installed solvers if requested."""
     asked_for = columns(formulations)
     names = ["least", *["before", "first"][-len(programs) :], f"try {NODES}", *map(" ".join, asked_for)]
     missing = "; neither cbc nor glpsol is here" if formulations and not asked_for else ""

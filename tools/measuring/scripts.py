@@ -1,4 +1,4 @@
-"""What a script takes as commands of the program."""
+"""The cost of a script as commands of the program."""
 
 import sys
 from pathlib import Path
@@ -23,7 +23,7 @@ def write_script(folder: Path, rows: int) -> Tuple[Path, int]:
 
 
 def measure_commands(program: Path, folder: Path, rows: int) -> Dict[str, int]:
-    """What a script takes as commands of the program, and the dump of what came of it."""
+    """The cost of a script as commands of the program, and of dumping the result."""
     path, lines = write_script(folder, rows)
     script = path.read_text()
     asked = folder / "asked"

@@ -1,4 +1,4 @@
-"""What a search for the optimum takes, on a set of small networks that is the same in each run."""
+"""The cost of a search for the optimum, on a set of small networks that is the same in each run."""
 
 import time
 from pathlib import Path
@@ -11,7 +11,7 @@ EVENTS = [8, 10, 12, 14, 16, 20, 24, 30]
 SEEDS = [1, 2]
 ACTIVITIES_OF_AN_EVENT = 2
 WIDTHS = (2, 4)
-# The least width of a span, and how much wider it may be.
+# The least width of a span, and the range above it.
 WIDE = (8, 20)
 SECONDS = 60
 MOST_NODES = 2**17
@@ -19,12 +19,12 @@ COUNTED_NODES = 2_000
 
 
 def ends(network: Network, limit: int) -> bool:
-    """Whether a search that may visit so many nodes ends."""
+    """Whether a search with this many nodes ends."""
     return not network.answers([f"try {limit}"]).startswith("stopped")
 
 
 def nodes_of(network: Network) -> Optional[int]:
-    """The least limit at which the search ends, or None where it is more than the most that are tried."""
+    """The least limit at which the search ends, or None if it is more than the greatest one tried."""
     high = 1
     while not ends(network, high):
         if high == MOST_NODES:
@@ -44,9 +44,9 @@ def seconds_of(network: Network, limit: int) -> float:
 
 
 def measure_search(program: Path, folder: Path, events: int, seed: int) -> Tuple[Optional[int], float, float]:
-    """The least limit that ends the search, the instructions for each node of it and the seconds, on one network of the set.
+    """The least limit at which the search ends, its instructions for each node and its seconds, on one network of the set.
 
-    Where that is great, the instructions are those of a lesser limit. By cycles a limit bounds work, and no node need be visited.
+    If that is great, the instructions are those of a lower limit. By cycles a limit bounds work, and possibly no node is visited.
     """
     rows = events * ACTIVITIES_OF_AN_EVENT
     network = Network(program, folder, rows, events, lambda event: False, seed, WIDTHS)
@@ -77,7 +77,7 @@ def columns(nodes: Optional[int], figure: float, seconds: float) -> str:
 
 
 def print_searches(programs: Sequence[Path], folder: Path) -> None:
-    """The figures of each program beside each other."""
+    """The figures of each program, compared."""
     print("\nthe least limit of `try` that ends the search, instructions for each node of it, and seconds" + (", before and now" if programs[1:] else ""))
     print(f"{'events':>7} {'seed':>5}" + f" {'limit':>9} {'a node':>9} {'seconds':>9}" * len(programs))
     ended: List[List[Optional[int]]] = [[] for _ in programs]

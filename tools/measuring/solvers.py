@@ -1,4 +1,4 @@
-"""What solvers of others take for a network as a whole-number program, and what they tell."""
+"""The cost of other solvers on a network as an integer program, and their results."""
 
 import re
 import shutil
@@ -10,17 +10,17 @@ from pespbench import Activity, Network, Window
 from pespbench.models import by_cycles, by_times
 from tests.rules import Row
 
-# What a solver is given beside its limit, to end by itself.
+# A solver's options, besides its limit.
 MORE_SECONDS = 10
 INFEASIBLE = re.compile(r"proven infeasible|Problem is infeasible|NO (PRIMAL|INTEGER|DUAL) FEASIBLE|INTEGER EMPTY")
 LEAST = re.compile(r"Result - Optimal solution found\n+Objective value: +(\S+)|Optimal - objective value (\S+)|Status: +(?:INTEGER )?OPTIMAL\nObjective: +cost = (\S+)")
-# cbc's log: a better timetable, and how it stands, each with the seconds.
+# cbc's log: a better timetable, and the state of the search, each with the seconds.
 BETTER = re.compile(r"^Cbc00(?:04|12|16)I Integer solution of (\S+) found .*\((\S+) seconds\)$", re.MULTILINE)
 STANDS = re.compile(r"^Cbc0010I After .* best possible (\S+) \((\S+) seconds\)$", re.MULTILINE)
 
 
 class Solved(NamedTuple):
-    """The seconds, or none where it did not end; the least cost, or `infeasible`, where it tells one; all that it printed."""
+    """The seconds, or none if it did not end; the least cost, or `infeasible`, if it prints one; its whole output."""
 
     seconds: Optional[float]
     answer: Optional[str]
@@ -38,14 +38,14 @@ FORMULATIONS = {"cycles": by_cycles, "plain": by_times}
 
 
 def words_of(solver: str, model: Path, seconds: int) -> List[str]:
-    # A limit of glpsol's own would be of a clock: it has that of run_limited alone.
+    # A limit of glpsol's own would be clock time: it only has that of run_limited.
     if solver == "cbc":
         return ["cbc", str(model), "sec", str(seconds), "solve", "quit"]
     return ["glpsol", "--lp", str(model), "-o", "/dev/stdout"]
 
 
 def number(text: str) -> str:
-    """A cost as it would be written where it is whole."""
+    """A cost without a point if it is whole."""
     return f"{float(text):.2f}".rstrip("0").rstrip(".")
 
 
@@ -57,7 +57,7 @@ def answer_of(log: str) -> Optional[str]:
 
 
 def solved(solver: str, formulation: str, folder: Path, rows: Sequence[Row], fixed: Sequence[Tuple[int, int]], period: int, seconds: int) -> Solved:
-    """One solver over one formulation. What it takes to write the model is not counted."""
+    """One solver with one formulation. Writing the model is not included."""
     model = folder / "model.lp"
     model.write_text(FORMULATIONS[formulation](network_of(rows, fixed, period)).lp())
     ran = run_limited(words_of(solver, model, seconds), "/dev/null", folder / "memory", seconds + MORE_SECONDS)
@@ -71,7 +71,7 @@ def last_before(lines: Pattern[str], log: str, seconds: float) -> Optional[Match
 
 
 def stands_at(log: str, seconds: float) -> str:
-    """The best cost and the bound that cbc's log has after so many seconds."""
+    """The best cost and the bound in cbc's log after this many seconds."""
     best, bound = last_before(BETTER, log, seconds), last_before(STANDS, log, seconds)
     return f"{number(best[1]) if best else 'none'}, {number(bound[1]) if bound else 'none'}"
 
@@ -81,7 +81,7 @@ def solvers_here() -> List[str]:
 
 
 def columns(formulations: Sequence[str]) -> List[Tuple[str, str]]:
-    """Each solver that is here with each of the formulations."""
+    """Each installed solver with each of the formulations."""
     return [(solver, formulation) for formulation in formulations for solver in solvers_here()]
 
 

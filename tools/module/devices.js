@@ -4,14 +4,14 @@
 
 const fs = require('node:fs');
 
-// What ends a run early; its message is the program's own text without its name.
+// The early end of a run; its message is the program's own text without its name.
 class Fault extends Error {}
 
 const LONGEST_FILE = 67_108_864;
 const PIECE = 1 << 20;
 const PAUSE = 5;
 
-// A device that is shared may not wait by itself.
+// A shared device may not wait by itself.
 const again = call => {
   for (;;) {
     try {

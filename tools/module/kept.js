@@ -1,6 +1,6 @@
 'use strict';
 
-// The lines that a session has to say again before a next one, since the module keeps nothing between two runs.
+// The lines that a session must repeat before a next one, since the module keeps nothing between two runs.
 
 // A later line of the same kind for the same event or activity makes these idle.
 const KINDS = { fix: 'window', window: 'window', unfix: 'window', time: 'time', untime: 'time', span: 'span', weight: 'weight' };
@@ -8,13 +8,13 @@ const OF_EVENTS = ['fix', 'window', 'unfix', 'time', 'untime'];
 
 const eventOf = word => `event ${Number(word)}`;
 
-// The event or activity that a line changes, brings or takes away.
+// The event or activity that a line changes, adds or drops.
 const aboutOf = ([name, word, number]) => {
   if (name === 'add' || name === 'drop') return `${word} ${Number(number)}`;
   return OF_EVENTS.includes(name) ? eventOf(word) : `activity ${Number(word)}`;
 };
 
-// The events that an activity gets as its ends.
+// The events that become the ends of an activity.
 const endsOf = words => {
   if (words[0] === 'ends') return words.slice(2, 4).map(eventOf);
   return words[0] === 'add' && words[1] === 'activity' ? words.slice(3, 5).map(eventOf) : [];
@@ -22,14 +22,14 @@ const endsOf = words => {
 
 class Kept {
   constructor() {
-    // What makes the network and its times, each line by a key, in the order in which they were said.
+    // The lines that build the network and its times, each by a key, in their original order.
     this.state = new Map();
     this.count = 0;
-    // The keys of all lines about an event or activity that one of them brought.
+    // The keys of all lines about an event or activity that one of them added.
     this.keys = new Map();
     // In how many lines an event is an end.
     this.uses = new Map();
-    // All lines on which it may rest what a later `try` tells, searches among them; and whether one of these stopped.
+    // All lines on which the reply to a later `try` may depend, including searches; and whether one of these stopped.
     this.story = null;
     this.hasStopped = false;
   }
@@ -51,7 +51,7 @@ class Kept {
     for (const event of ends) this.uses.set(event, (this.uses.get(event) || 0) + count);
   }
 
-  // Leaves out all lines about what goes, where one of them brought it and no other one names it.
+  // Omits all lines about a dropped event or activity, if one of them added it and no other one names it.
   takeBack(about) {
     const keys = this.keys.get(about);
     if (!keys || this.uses.get(about)) return false;
@@ -63,7 +63,7 @@ class Kept {
     return true;
   }
 
-  // A search, and the first word of what it told. After an optimum nothing rests on what was searched before it.
+  // A search, and the first word of its reply. After an optimum nothing depends on earlier searches.
   search([name], bytes, told) {
     if (name === 'optimum' && told === 'optimum') this.forget();
     this.story = this.story || this.lines();
@@ -93,7 +93,7 @@ class Kept {
   }
 
   // The lines before next ones of these names. An optimum is the same whatever was searched before it, but is found sooner
-  // where a search that stopped has come to something.
+  // if it resumes a stopped search.
   before(names) {
     const rests = names.includes('try') || (this.hasStopped && ['optimum', 'adopt'].some(name => names.includes(name)));
     return rests && this.story ? this.story : this.lines();

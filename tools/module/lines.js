@@ -15,7 +15,7 @@ class Lines {
     this.isOver = false;
   }
 
-  // The whole lines that are there, once some bytes are, each with its number; and what ends the run after them.
+  // The complete lines after some bytes, each with its number; and what ends the run after them.
   next() {
     const taken = [];
     const fault = this.read(taken);
@@ -48,7 +48,7 @@ class Lines {
     return fault;
   }
 
-  // What is wrong with a next line of so many bytes.
+  // The fault of a next line of this many bytes.
   faultOf(length) {
     if (this.place === MOST_LINES) return `more than ${MOST_LINES} lines`;
     return length > LONGEST_LINE ? `line ${this.place + 1} is longer than ${LONGEST_LINE} bytes` : '';

@@ -49,7 +49,7 @@ const tell = text => {
   try {
     writeAll(Buffer.from(text), 2);
   } catch {
-    // Where standard error cannot be written, the status alone tells the fault.
+    // If standard error cannot be written, only the status reports the fault.
   }
 };
 

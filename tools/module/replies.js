@@ -1,9 +1,9 @@
 'use strict';
 
-// Where one reply ends and the next begins, as docs/FORMATS.md says it (From a program).
+// The ends of replies, as docs/FORMATS.md defines them (From a program).
 
 const LINE_FEED = 10;
-// Of the first line's words, the one that tells how many lines follow, by the first word.
+// The place of the first line's word with the number of following lines, by the first word.
 const COUNTED = { domains: 1, tensions: 1, violations: 1, optimum: 2, stopped: 2, '#': 4 };
 
 const followed = first => {
@@ -16,7 +16,7 @@ const afterLine = (output, from) => {
   return end < 0 ? output.length : end + 1;
 };
 
-// The whole replies in an output, in their order; each is bytes.
+// The complete replies in an output, in their order; each is bytes.
 const split = output => {
   const replies = [];
   for (let from = 0, end; from < output.length; from = end) {

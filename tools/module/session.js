@@ -1,7 +1,7 @@
 'use strict';
 
-// A session over a module that answers whole runs and keeps nothing: what earlier lines changed is said again before the
-// next ones, and only what is new is given. Replies depend on the lines alone, so they are the program's.
+// A session over a module that answers whole runs and keeps nothing: the effective earlier lines are repeated before the
+// next ones, and only new replies are returned. Replies depend only on the lines, so they are the program's.
 
 const { Fault } = require('./devices.js');
 const { Kept } = require('./kept.js');
@@ -9,7 +9,7 @@ const { split, firstWord } = require('./replies.js');
 
 const OPTIMUM = Buffer.from('optimum');
 const FEED = Buffer.from('\n');
-// So many lines are answered in one run, at first; the more the shorter their replies are.
+// The number of lines that are answered in one run, at first; it grows while replies are short.
 const FIRST_COUNT = 64, MOST_COUNT = 1 << 16;
 const SHORT = 1 << 20, LONG = 1 << 23;
 const OUT_OF_MEMORY = [5, 6];
@@ -19,7 +19,7 @@ const isSaid = ({ words }) => words.length > 0 && !words[0].startsWith('#');
 const scriptOf = lines => Buffer.concat(lines.flatMap(line => [line, FEED]));
 
 class Session {
-  // Files are looked at before any line; a fault of theirs is the run's.
+  // Files are checked before any line; a fault of theirs is the run's.
   static async open(PespModule, start, opening) {
     const session = new Session(PespModule, await start(), opening);
     session.run([]);
@@ -33,7 +33,7 @@ class Session {
     this.count = FIRST_COUNT;
   }
 
-  // What came of the lines, and of those before them; where a file has a fault, that ends the run.
+  // The result of the lines, and of those before them; a fault of a file ends the run.
   run(lines) {
     const { output, ending, fault } = this.answers({ commands: scriptOf(lines) });
     if (fault && !OUT_OF_MEMORY.includes(ending.status)) throw new Fault(fault);
@@ -54,13 +54,13 @@ class Session {
     }
   }
 
-  // Whether the line asks for the optimum, which is known: it is told again.
+  // Whether the line asks for the optimum, which is known: it is returned again.
   isTold([name, limit, ...rest]) {
     if (rest.length) return false;
     return limit === undefined ? name === 'optimum' : name === 'try' && /^\+?[0-9]{1,12}$/.test(limit);
   }
 
-  // Answers the first of the lines, takes them away, and gives their replies.
+  // Answers the first of the lines, removes them, and returns their replies.
   some(left) {
     const lines = left.slice(0, this.count);
     const before = this.kept.before(lines.map(({ words }) => words[0]));
@@ -90,7 +90,7 @@ class Session {
     return output;
   }
 
-  // What a line and its reply leave for later lines.
+  // The effect of a line and its reply on later lines.
   note({ words, bytes }, reply) {
     const first = firstWord(reply);
     if (words[0] === 'optimum' || words[0] === 'try') this.noteSearch(words, bytes, first, reply);
@@ -105,7 +105,7 @@ class Session {
     if (first !== 'stopped') this.known = reply;
   }
 
-  // Times are no part of what is searched.
+  // Times do not affect searches.
   noteChange(words, bytes) {
     this.kept.change(words, bytes);
     if (words[0] !== 'time' && words[0] !== 'untime') this.known = null;

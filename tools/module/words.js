@@ -1,10 +1,10 @@
 'use strict';
 
-// The words of the command line, read as the program reads them: in turn, and the first fault ends it.
+// The words of the command line, parsed like by the program: in order, and the first fault ends it.
 
 const { readFileSync } = require('node:fs');
 
-// What is printed in place of answers.
+// What is printed instead of answers.
 class Shown extends Error {}
 
 class Refused extends Error {}
@@ -17,7 +17,7 @@ const refuse = text => {
   throw new Refused(text + MORE);
 };
 
-// Node makes text of words that are none, so the bytes are looked at where the system has them.
+// Node converts invalid words to text, so the bytes are read from the system if possible.
 const wordsAreText = () => {
   try {
     new TextDecoder('utf-8', { fatal: true }).decode(readFileSync('/proc/self/cmdline'));
@@ -38,7 +38,7 @@ const put = (settings, name, value) => {
   settings[name] = name === 'period' ? periodOf(value) : value;
 };
 
-// The value of an option stands after `=`, or is the next word, where that does not begin with `-`.
+// The value of an option follows `=`, or is the next word, unless that begins with `-`.
 const valueOf = (name, inline, words) => {
   if (inline !== undefined) return inline;
   if (!words.length || (words[0].startsWith('-') && words[0] !== '-')) return refuse(`a value is required for '--${name}'`);

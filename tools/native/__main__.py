@@ -1,4 +1,4 @@
-"""Puts program and libraries that are made of the page's module into a folder.
+"""Writes program and libraries that are made from the page's module into a folder.
 
 usage: python3 tools/native FOLDER [COMPILER]
 """
@@ -7,7 +7,7 @@ import argparse
 import pathlib
 import sys
 
-# Nothing is left in the tree.
+# Leaves no compiled files in the tree.
 sys.dont_write_bytecode = True
 sys.path.insert(0, str(pathlib.Path(__file__).resolve().parents[1]))
 

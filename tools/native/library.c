@@ -1,5 +1,5 @@
-/* The calls of pespbench.h over the page's module in C: each session has a module of its own, whose memory alone it uses. What
- * goes in is copied into that, and what comes out is copied out of it. Nothing proves it. */
+/* The calls of pespbench.h over the page's module in C: each session has a module of its own, and uses only that one's memory.
+ * Arguments are copied into it, and results out of it. It is not proved. */
 #include "pespbench.h"
 
 #undef pesp_answer
@@ -24,7 +24,7 @@
 #define ROOM 1048576u
 #define LARGEST_ROOM 0x20000000u
 
-/* A module and its blocks: the session in it, what a call tells, a number or what a search has come to, a line, and replies. */
+/* A module and its blocks: its session, the report of a call, a number or the result of a search, a line, and replies. */
 struct bench {
     Z_module_instance_t module;
     uint64_t session, told, number, line, out, room;
@@ -43,7 +43,7 @@ static uint64_t taken(struct bench *bench, uint64_t bytes) {
     return Z_moduleZ_pesp_take(&bench->module, bytes != 0 ? bytes : 1);
 }
 
-/* The block of bytes that are copied into the module; 0 where there is no memory. */
+/* The block for bytes that are copied into the module; 0 if there is no memory. */
 static uint64_t given(struct bench *bench, const uint8_t *bytes, size_t length) {
     uint64_t block = taken(bench, length);
     if (block != 0 && length != 0) memcpy(at(bench, block), bytes, length);
@@ -65,7 +65,7 @@ static bool has_blocks(struct bench *bench) {
     return bench->session != 0 && bench->told != 0 && bench->number != 0 && bench->line != 0 && bench->out != 0;
 }
 
-/* A module with its blocks, or null where there is no memory. */
+/* A module with its blocks, or null if there is no memory. */
 static struct bench *made(void) {
     struct bench *bench = calloc(1, sizeof *bench);
     if (bench == NULL || !has_memory()) {
@@ -92,7 +92,7 @@ static size_t least(size_t left, size_t right) {
     return left < right ? left : right;
 }
 
-/* Has the block of replies so much room, as far as there is memory; what it held is lost. */
+/* Enlarges the block of replies to this room, if there is memory; its contents are lost. */
 static void widen(struct bench *bench, size_t wanted) {
     if (wanted <= bench->room) return;
     uint64_t block = taken(bench, least(wanted, LARGEST_ROOM));
@@ -158,13 +158,13 @@ EXPORTED void pesp_close(struct pesp_session *session) {
     session->at = NULL;
 }
 
-/* The module of a session; where it is closed that is told, and there is none. */
+/* The module of a session; a closed session is reported, and has none. */
 static struct bench *bench_of(struct pesp_session *session, struct pesp_told *told) {
     *told = ended(PESP_CLOSED);
     return session->is_open ? session->at : NULL;
 }
 
-/* A question whose reply is longer than the room is asked again; a change is answered in a few bytes. */
+/* A query whose reply is longer than the room is repeated; the reply to a change has few bytes. */
 EXPORTED void pesp_ask(struct pesp_session *session, const uint8_t *line, size_t line_length, uint8_t *out, size_t out_length,
                        struct pesp_told *told) {
     struct bench *bench = bench_of(session, told);

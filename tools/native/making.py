@@ -12,18 +12,18 @@ from paging.tree import MADE, TOP, VERSION, NotMade, run
 
 SOURCES = TOP / "tools/native"
 PROGRAM, LIBRARY = ["words.c", "program.c"], ["library.c", "runtime.c"]
-# As many processes compile side by side as there are parts.
+# This many processes compile in parallel, one for each part.
 PARTS = 4
-# No address that was not given can be read, so loads are not looked at one by one; asserts are of a runtime that is not used.
+# No address outside the memory can be read, so loads are not checked one by one; asserts are of a runtime that is not used.
 FLAGS = ["-O2", "-fPIC", "-fvisibility=hidden", "-fno-strict-aliasing", "-w", "-DNDEBUG", "-DWASM_RT_MEMCHECK_SIGNAL_HANDLER=1"]
 FLAGS += ["-DWASM_RT_SKIP_SIGNAL_RECOVERY=1"]
 FILES = ["pespbench", "libpespbench.a", "libpespbench.so"]
-# What is wanted, and Debian's packages that have it.
+# The required commands, and their Debian packages.
 WANTED = {"wasm2c": "wabt", "ar": "binutils"}
 
 
 def objects(sources: Sequence[pathlib.Path], compiler: str, folder: pathlib.Path) -> List[pathlib.Path]:
-    """What the sources are compiled to, all at once."""
+    """The objects of the sources, compiled in parallel."""
     words = [compiler, *FLAGS, f"-I{folder}", f"-I{SOURCES}", f"-I{TOP / 'embedded'}", "-c"]
     made = [folder / f"{source.stem}.o" for source in sources]
     several = [subprocess.Popen([*words, "-o", to, source], stderr=subprocess.PIPE) for source, to in zip(sources, made)]
@@ -35,21 +35,21 @@ def objects(sources: Sequence[pathlib.Path], compiler: str, folder: pathlib.Path
 
 
 def check(compiler: str) -> None:
-    """Raises NotMade where something is not there that is wanted."""
+    """Raises NotMade if a required command is missing."""
     for name, package in [*WANTED.items(), (compiler, "gcc")]:
         if not shutil.which(name):
             raise NotMade(f"there is no {name} (apt install {package})")
 
 
 def texts() -> str:
-    """What the program says of itself, for C."""
+    """The program's version text, for C."""
     told = {"HELP": (TOP / "tools/module/help.txt").read_text()}
     told["VERSION_TEXT"] = f"pespbench {VERSION.read_text().strip()}, made of the page's module, and not proved\n"
     return "".join(f"static const char {name}[] = {json.dumps(text)};\n" for name, text in told.items())
 
 
 def make(to: pathlib.Path, compiler: str) -> None:
-    """Puts `pespbench`, `libpespbench.a` and `libpespbench.so` into a folder. Raises NotMade."""
+    """Writes `pespbench`, `libpespbench.a` and `libpespbench.so` into a folder. Raises NotMade."""
     check(compiler)
     with tempfile.TemporaryDirectory(prefix="pespbench-") as name:
         folder = pathlib.Path(name)

@@ -1,4 +1,4 @@
-/* The program over the library: its words, files, streams, exit statuses and faults. Nothing proves it. */
+/* The program over the library: its words, files, streams, exit statuses and faults. It is not proved. */
 #include "pespbench.h"
 
 #include <errno.h>
@@ -38,7 +38,7 @@ void fail(const char *form, ...) {
     exit(1);
 }
 
-/* Whether a call is to be made again; a device that is shared may not wait by itself. */
+/* Whether to repeat a call; a shared device may not wait by itself. */
 static bool again(int file, short events) {
     struct pollfd wanted = {file, events, 0};
     if (errno == EAGAIN || errno == EWOULDBLOCK) poll(&wanted, 1, -1);
@@ -56,7 +56,7 @@ void write_all(const void *bytes, size_t length) {
     }
 }
 
-/* Reads some more bytes; how many, none at the end, and less than none where that fails. */
+/* Reads some more bytes; returns their number, 0 at the end, and below 0 on failure. */
 static ssize_t read_more(int file, struct bytes *bytes) {
     if (bytes->room - bytes->length < PIECE) {
         bytes->room = 2 * bytes->room + PIECE;
@@ -89,7 +89,7 @@ static void fail_of_file(const struct pesp_told *told) {
     fail("%s file, record %llu: %s%s", NAMES[told->status - PESP_FAULT_OF_ACTIVITIES], (unsigned long long)told->place, field, REASONS[told->reason]);
 }
 
-/* A session of the files, whose faults end the process. */
+/* Opens a session of the files, whose faults end the process. */
 static struct pesp_session opened(const struct settings *settings) {
     struct bytes files[FILES];
     struct pesp_session session = {0};
@@ -102,8 +102,8 @@ static struct pesp_session opened(const struct settings *settings) {
     return session;
 }
 
-/* Answers a line, which is on standard output then. Replies to changes and searches fit the first room; another question whose
- * reply does not is asked once more. */
+/* Answers a line on standard output. Replies to changes and searches fit the first room; a query whose reply does not is
+ * repeated. */
 static void answer(struct pesp_session *session, const uint8_t *line, size_t length, unsigned place) {
     static struct bytes out = {NULL, 0, 0};
     struct pesp_told told = {PIECE, 0, PESP_DONE, 0, 0};
@@ -119,7 +119,7 @@ static void answer(struct pesp_session *session, const uint8_t *line, size_t len
     write_all(out.at, told.length);
 }
 
-/* Answers the whole lines that are there; the last one of all may have no line feed. How many bytes they have. */
+/* Answers the complete lines; the last one of all may have no line feed. Returns how many bytes they have. */
 static size_t answer_lines(struct pesp_session *session, const struct bytes *held, bool is_over, unsigned *place) {
     size_t from = 0;
     while (from < held->length) {

@@ -1,7 +1,7 @@
-/* What the translated module calls: memory that grows, and an end for what cannot be. Nothing proves it.
+/* The runtime of the translated module: memory that grows, and an end at impossible calls. It is not proved.
  *
- * Eight gigabytes of addresses are kept for each memory, of which the system gives what is used. So no address of 32 bits with an
- * offset leaves them, and who reads what was not given is ended by the system. */
+ * Eight gigabytes of addresses are reserved for each memory, of which the system provides the used pages. So no address of 32
+ * bits with an offset is outside of them, and the system ends a process that reads an unused one. */
 #define _GNU_SOURCE
 #include "runtime.h"
 
@@ -11,10 +11,10 @@
 
 #define PAGE 65536u
 #define KEPT 0x200000000ul
-/* More than a module begins with. */
+/* More than a module's initial memory. */
 #define FIRST_PAGES 32u
 
-/* What the next module of this thread is given. */
+/* The memory of the next module of this thread. */
 static _Thread_local uint8_t *kept;
 
 bool has_memory(void) {

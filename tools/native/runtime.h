@@ -6,7 +6,7 @@
 
 #include "wasm-rt.h"
 
-/* Keeps memory for the next module that this thread makes; whether there is any. */
+/* Reserves memory for the next module that this thread makes; returns whether there is any. */
 bool has_memory(void);
 
 #endif

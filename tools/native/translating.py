@@ -1,4 +1,4 @@
-"""The page's module in C, cut into parts that are compiled side by side."""
+"""The page's module in C, split into parts that are compiled in parallel."""
 
 import pathlib
 import re
@@ -7,7 +7,7 @@ from typing import List, Tuple
 from paging.page import module_of
 from paging.tree import NotMade, run
 
-# wasm2c names all that it exports for it.
+# wasm2c names all exports.
 NAME = "module"
 # A function of the module: its head, up to the line that ends it.
 FUNCTION = re.compile(r"^static (?:void|u32|u64) w2c_\w+\(Z_module_instance_t\* instance\b[^;{]*\{$.*?^\}\n", re.M | re.S)
@@ -16,7 +16,7 @@ EXPORTS = "/* export: 'memory' */"
 
 
 def translated(page: pathlib.Path, folder: pathlib.Path) -> Tuple[str, List[str], str]:
-    """What stands above the functions of the page's module in C, the functions, and what stands below them."""
+    """The text above the functions of the page's module in C, the functions, and the text below them."""
     (folder / f"{NAME}.wasm").write_bytes(module_of(page.read_bytes()))
     run(["wasm2c", "-n", NAME, f"{NAME}.wasm", "-o", f"{NAME}.c"], cwd=folder)
     text = (folder / f"{NAME}.c").read_text()
@@ -31,9 +31,9 @@ def translated(page: pathlib.Path, folder: pathlib.Path) -> Tuple[str, List[str]
 
 
 def parts(page: pathlib.Path, folder: pathlib.Path, count: int) -> List[pathlib.Path]:
-    """So many files of C, of about the same size, of which each calls functions of the others."""
+    """This many C files, of about the same size, each of which calls functions of the others."""
     above, functions, exports = translated(page, folder)
-    # A load that nothing uses is one that cannot fail, so it need not be made.
+    # A load whose result is unused cannot fail, so it is omitted.
     above = DECLARATION.sub("", above).replace("#define wasm_asm __asm__", "#define wasm_asm(...)")
     texts = [""] * count
     for function in sorted(functions, key=len, reverse=True):

@@ -13,7 +13,7 @@
 static const char MORE[] = "\n\nUsage: pespbench [OPTIONS] [ACTIVITIES]\n\nFor more information, try '--help'.\n";
 static const char *const OPTIONS[FILES] = {NULL, "fixed", "times"};
 
-/* What was given so far. */
+/* The options so far. */
 struct given {
     struct settings settings;
     bool has_period;
@@ -27,7 +27,7 @@ static void refuse(const char *form, const char *word, const char *name) {
     exit(2);
 }
 
-/* How many bytes a character of UTF-8 has, which is no longer than it could be, and no half of a pair; 0 where it is none. */
+/* The length of a valid UTF-8 character in bytes, in its shortest form, and not a surrogate; 0 if it is invalid. */
 static int length_of(const unsigned char *at) {
     if (at[0] < 0x80) return 1;
     int length = at[0] >= 0xf0 ? 4 : at[0] >= 0xe0 ? 3 : 2;
@@ -54,7 +54,7 @@ static uint16_t period_of(const char *word) {
     return (uint16_t)period;
 }
 
-/* The value of an option stands after `=`, or is the next word, where that does not begin with `-`. */
+/* The value of an option follows `=`, or is the next word, unless that begins with `-`. */
 static const char *value_of(struct given *given, const char *name, const char *inside) {
     if (inside != NULL) return inside;
     const char *next = *given->rest;
@@ -77,7 +77,7 @@ static void version(void) {
     exit(0);
 }
 
-/* An option that has a value; whether it is one. */
+/* Handles an option with a value; returns whether it is one. */
 static bool take_valued(struct given *given, const char *name, const char *inside) {
     if (strcmp(name, "period") == 0) {
         const char *value = value_of(given, name, inside);

@@ -14,11 +14,11 @@ struct settings {
     const char *paths[FILES]; /* null where there is none */
 };
 
-/* Reads the words as the program does, in turn; the first that is refused ends the process with status 2. What asks for help or
- * for the version is answered, and ends it too. */
+/* Parses the words like the program, in order; the first refused one ends the process with status 2. A request for help or the
+ * version is answered, and ends it too. */
 struct settings settings_of(int count, char **words);
 
-/* Ends the process with status 1, as the program tells a fault. */
+/* Ends the process with status 1, and reports the fault like the program. */
 void fail(const char *form, ...) __attribute__((noreturn, format(printf, 1, 2)));
 
 /* Writes all of it to standard output, or fails. */

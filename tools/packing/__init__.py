@@ -1,1 +1,1 @@
-"""What tools/package puts together."""
+"""The contents of the package that tools/package makes."""

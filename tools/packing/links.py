@@ -1,4 +1,4 @@
-"""Links of documents, where not all that they lead to comes along."""
+"""Links of documents, if some of their targets are not packed."""
 
 import posixpath
 import re
@@ -8,7 +8,7 @@ LINK = re.compile(r"!?\[([^\]]*)\]\(([^)#\s]*)(#[^)\s]*)?\)")
 
 
 def with_live_links(name: str, text: str, names: Collection[str]) -> str:
-    """The text of a document whose links to what is not among the names stay as their words alone."""
+    """The text of a document in which links to targets other than the given names are plain text."""
     folders = {posixpath.dirname(each) for each in names}
 
     def kept(link: "re.Match[str]") -> str:

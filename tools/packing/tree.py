@@ -1,4 +1,4 @@
-"""The tree that is packed, as git has it."""
+"""The packed tree, as committed."""
 
 import io
 import os
@@ -8,9 +8,9 @@ import tarfile
 from typing import Dict, Tuple
 
 TOP = pathlib.Path(__file__).resolve().parents[2]
-# The version, which stands there alone.
+# The file of the version.
 VERSION = "python/pespbench/VERSION"
-# What a package says of itself, in the place of the tree's own page.
+# The package's own README, instead of the tree's.
 OWN_PAGE = "tools/packing/README.txt"
 PARTS = [OWN_PAGE, "CHANGELOG.md", "SECURITY.md", "man", "completions", "docs", "examples", "embedded", "tools/install", "tools/packing/try"]
 PARTS += ["python/README.md", "python/pyproject.toml", "python/setup.py", "python/pespbench"]
@@ -18,11 +18,11 @@ PARTS += ["page/README.md", "page/page.png", "page/pespbench.html", "page/module
 
 
 class NotMade(Exception):
-    """No package is made, and why."""
+    """Why no package is made."""
 
 
 def git(*words: str) -> bytes:
-    """What git tells of this tree, whatever tree the environment is about."""
+    """The output of git in this tree, even if the environment names another one."""
     env = {name: value for name, value in os.environ.items() if not name.startswith("GIT_")}
     try:
         done = subprocess.run(["git", "-C", str(TOP), *words], env=env, capture_output=True)
@@ -34,7 +34,7 @@ def git(*words: str) -> bytes:
 
 
 def committed() -> Dict[str, Tuple[bytes, bool]]:
-    """The files that are packed, each with its bytes and whether it is run, as HEAD has them. Raises NotMade."""
+    """The packed files, each with its bytes and whether it is executable, as in HEAD. Raises NotMade."""
     if os.path.realpath(git("rev-parse", "--show-toplevel").decode().rstrip("\n")) != str(TOP):
         raise NotMade("this folder is no clone of git, which says what belongs to it")
     found: Dict[str, Tuple[bytes, bool]] = {}
@@ -49,5 +49,5 @@ def committed() -> Dict[str, Tuple[bytes, bool]]:
 
 
 def has_changes() -> bool:
-    """Whether a file that is packed is other than HEAD has it."""
+    """Whether a packed file differs from HEAD."""
     return bool(git("status", "--porcelain", "--untracked-files=no", "--", *PARTS))

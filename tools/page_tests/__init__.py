@@ -1,4 +1,4 @@
-"""Tests of the page in a headless browser. They stand on the Python package, which draws networks and reads what is saved."""
+"""Tests of the page in a headless browser. They use the Python package, which generates networks and reads saved files."""
 
 import sys
 

@@ -1,4 +1,4 @@
-"""What is added and dropped by hand: activities, events, names, and a line with its stops."""
+"""Additions and removals by hand: activities, events, names, and a line with its stops."""
 
 import tempfile
 
@@ -11,7 +11,7 @@ KINDS = "[...Page.labels.kinds]"
 
 
 def activity_added(suite: Suite, page: Hands) -> None:
-    """An activity is added between two events that are clicked, with kind, span and weight, and is undone with its kind."""
+    """An activity is added between two clicked events, with kind, span and weight, and undone with its kind."""
     page.again()
     size = page.text("#size")
     page.click(*page.middle('[data-row="4"] .name'))
@@ -51,7 +51,7 @@ def activity_added(suite: Suite, page: Hands) -> None:
 
 
 def dropped_by_hand(suite: Suite, page: Hands) -> None:
-    """Activities and events are dropped by a button that names them, and come back by Undo."""
+    """Activities and events are dropped by a button that names them, and return by Undo."""
     page.show(TWO_TRAINS)
     state = page.state()
     button = '[data-activity="1"] .drop'
@@ -71,7 +71,7 @@ def dropped_by_hand(suite: Suite, page: Hands) -> None:
 
 
 def named_by_hand(suite: Suite, page: Hands) -> None:
-    """An event is named; what is not saved then is known, and an undo takes the name back."""
+    """An event is named; that is then unsaved, and an undo restores the old name."""
     page.show({"activities": TWO_TRAINS["activities"], "period": "10"})
     suite.note("without a name", {"name": "event 1"}, {"name": page.text("#chosen-name")})
     page.click(*page.middle("#adding summary"))
@@ -89,7 +89,7 @@ def named_by_hand(suite: Suite, page: Hands) -> None:
 
 
 def labels_added(suite: Suite, page: Hands) -> None:
-    """A file of labels alone is added to what is open, in one step, and leaves the other labels as they are."""
+    """A file of labels alone is added to the open network, in one step, and does not change the other labels."""
     page.again()
     page.drag([page.minute(1, 20), page.minute(1, 30)])
     with tempfile.TemporaryDirectory() as folder:

@@ -1,4 +1,5 @@
-"""Always the best: with a tick, how far the timetable shown is above the best is told after each step, and the rest follows a hand."""
+"""Always the best: with a tick, the page shows after each step how far its timetable is above the best, and the rest follows a
+hand."""
 
 from typing import Dict, List, Tuple
 
@@ -12,12 +13,12 @@ THERE = "Page.find('above').textContent.includes('with it there')"
 VIOLATED = "Page.countViolated(Page.view)"
 COST = "Number(Page.view.cost)"
 FOLLOWED = "Page.session.steps.length && Page.session.steps[Page.session.steps.length - 1].title.endsWith('and the rest follows')"
-# What the best costs after some lines, as a whole run of the program tells it.
+# The least cost after some lines, by a whole run of the program.
 BEST = """(() => {
     const { base, lines } = Page.present();
     return Number(Page.run(base, [...lines, ...MORE, 'optimum']).pop()[0].split(' ')[1]);
 })()"""
-# Counts pictures for three seconds.
+# Counts drawn frames for three seconds.
 PICTURES = """new Promise(done => {
     const times = [], count = at => {
         times.push(at);
@@ -29,7 +30,7 @@ PICTURES = """new Promise(done => {
 
 
 def ticked(page: Hands, way: str = "best") -> None:
-    """The region, with event 1 held where it is, so that not all of it can be turned together; the tick is set by a click."""
+    """The region, with event 1 fixed at its time, so that not all of it can be shifted together; a click sets the tick."""
     page.again()
     page.ask(f"Page.find('rest').value = '{way}'; Page.step([`fix 1 ${{Page.view.times.get(1)}}`])")
     page.frame()
@@ -56,7 +57,8 @@ def moved_lines(page: Hands, train: int, minutes: int) -> List[str]:
 
 
 def above_told(suite: Suite, page: Hands) -> None:
-    """After each step a search beside the hand tells how far what is shown is above the best; no button is off meanwhile."""
+    """After each step a search beside the hand reports how far the timetable shown is above the best; no button is disabled
+    meanwhile."""
     ticked(page)
     best, shown = page.ask(BEST.replace("...MORE, ", "")), page.ask(COST)
     told = f"{shown - best:,} above the best, which costs {best:,}"
@@ -102,7 +104,8 @@ def seen_whole(suite: Suite, page: Hands) -> None:
 
 @within(120)
 def rest_follows(suite: Suite, page: Hands) -> None:
-    """While a train is dragged, all others are drawn where the best timetable has them, with old ways; it is one step, which undo takes back."""
+    """While a train is dragged, all others are drawn at their times in the best timetable, with old paths; it is one step, which
+    undo reverts."""
     ticked(page)
     before = times(page)
     wanted = page.ask(BEST.replace("MORE", str(moved_lines(page, 21, 3))))
@@ -136,7 +139,8 @@ def rest_follows(suite: Suite, page: Hands) -> None:
 
 @within(120)
 def rest_follows_later(suite: Suite, page: Hands) -> None:
-    """After a quick drag, a key on a bar, on a strip or on a span, the rest follows as a part of that step as soon as it is known."""
+    """After a quick drag, or a key on a bar, on a strip or on a span, the rest follows as part of that step as soon as it is known.
+    """
     ticked(page)
     before = times(page)
     x, y, minute = way_of(page, 21)
@@ -165,7 +169,8 @@ def rest_follows_later(suite: Suite, page: Hands) -> None:
 
 
 def drag_train(page: Hands, event: int, words: str) -> Dict[int, int]:
-    """The times after the train of an event is dragged 3 minutes later: meanwhile the page says these words, then the rest follows."""
+    """The times after the train of an event is dragged 3 minutes later: meanwhile the page shows these words, then the rest
+    follows."""
     x, y, minute = way_of(page, event)
     page.drag([(x, y), (x + 2 * minute, y), (x + 3 * minute, y)], is_released=False)
     page.until(f"Page.find('above').textContent.startsWith('{words}')")
@@ -176,7 +181,7 @@ def drag_train(page: Hands, event: int, words: str) -> Dict[int, int]:
 
 @within(120)
 def nearest_follows(suite: Suite, page: Hands) -> None:
-    """The rest follows to the nearest timetable where that is chosen: what the hand leaves met does not move."""
+    """The rest follows to the nearest timetable if that is chosen: events that still meet everything do not move."""
     ticked(page, "near")
     before = times(page)
     now = drag_train(page, 21, "the nearest with it there")
@@ -189,7 +194,8 @@ def nearest_follows(suite: Suite, page: Hands) -> None:
 
 @within(120)
 def rest_with_nothing_held(suite: Suite, page: Hands) -> None:
-    """Where nothing else is held the whole timetable is not turned with the hand: the rest follows to the nearest, which is said."""
+    """If nothing else is held, the whole timetable is not shifted with the hand: the rest follows to the nearest one, and the page
+    says so."""
     page.again()
     page.press("always")
     page.until(KNOWN)
@@ -203,7 +209,7 @@ def rest_with_nothing_held(suite: Suite, page: Hands) -> None:
 
 
 def rest_stays(suite: Suite, page: Hands) -> None:
-    """Where no timetable has it there, that is told, and the hand's own step is done alone; where the choice is so, the rest stays."""
+    """If no timetable has it there, the page says so, and only the hand's own step is made; if that is chosen, the rest stays."""
     page.again()
     page.show(TWO_TRAINS)
     page.ask("Page.step(['fix 1 0'])")
@@ -224,7 +230,7 @@ def rest_stays(suite: Suite, page: Hands) -> None:
 
 
 def pictures(page: Hands, way: str) -> Tuple[float, float]:
-    """How many pictures a second are drawn while a train is dragged to and fro, and the longest time between two, in milliseconds."""
+    """How many frames a second are drawn while a train is dragged to and fro, and the longest time between two, in milliseconds."""
     page.ask(f"Page.find('rest').value = '{way}'")
     x, y, minute = way_of(page, 21)
     page.drag([(x, y), (x + minute, y)], is_released=False)
@@ -244,7 +250,8 @@ def pictures(page: Hands, way: str) -> Tuple[float, float]:
 
 @within(120)
 def pictures_go_on(suite: Suite, page: Hands) -> None:
-    """While a train is dragged to and fro with the rest following, pictures are drawn all the time: 12 a second, or a fifth of those without."""
+    """While a train is dragged to and fro with the rest following, frames are drawn continuously: 12 a second, or a fifth of those
+    without."""
     ticked(page)
     [alone, _], [count, longest] = pictures(page, ""), pictures(page, "best")
     print(f"  {count:.0f} pictures a second, at most {longest:.0f} ms from one to the next; {alone:.0f} a second where the rest stays")

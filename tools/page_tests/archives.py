@@ -1,4 +1,4 @@
-"""Archives and long files of strangers: what one has is counted and checked before it is opened, and what takes long can be stopped."""
+"""Archives and long files of strangers: the contents are counted and checked before opening, and long work can be stopped."""
 
 import pathlib
 import tempfile
@@ -13,7 +13,7 @@ from tests.harness import Suite, within
 LONGEST = 67_108_864
 OPENED = "Page.find('opening').open || Page.find('said').textContent.startsWith('opened')"
 UNREAD = "The files cannot be read: "
-# What the page may take of memory for a file of the greatest length, and its browser's own there.
+# The memory that the page may use for a file of the greatest length, and that its browser uses itself.
 MOST_MEMORY = 500_000_000
 SECONDS = 240
 
@@ -29,7 +29,7 @@ def archived(path: pathlib.Path, files: List[str], method: int = zipfile.ZIP_DEF
 
 
 def dropped(page: Hands, path: pathlib.Path) -> str:
-    """What the dialog tells of an archive; '' where it is opened."""
+    """The dialog's message about an archive; '' if it is opened."""
     page.again()
     page.drop(path)
     page.until(OPENED)
@@ -38,7 +38,7 @@ def dropped(page: Hands, path: pathlib.Path) -> str:
 
 
 def changed(path: pathlib.Path, old: bytes, new: bytes, is_last: bool = False) -> pathlib.Path:
-    """The archive with some bytes in the place of others, the first or the last ones that there are."""
+    """The archive with some of its bytes replaced, at their first or last occurrence."""
     data = path.read_bytes()
     place = data.rfind(old) if is_last else data.find(old)
     path.write_bytes(data[:place] + new + data[place + len(old) :])
@@ -47,7 +47,7 @@ def changed(path: pathlib.Path, old: bytes, new: bytes, is_last: bool = False) -
 
 @within(120)
 def archives_counted(suite: Suite, page: Hands) -> None:
-    """The files of an archive are counted, and their bytes added up, before any is unpacked."""
+    """The files of an archive are counted, and their bytes summed, before any is unpacked."""
     with tempfile.TemporaryDirectory() as name:
         folder = pathlib.Path(name)
         for count, told in [(997, ""), (998, f"{UNREAD}there are more than 1,000."), (60_000, f"{UNREAD}there are more than 1,000.")]:
@@ -68,7 +68,7 @@ def archives_counted(suite: Suite, page: Hands) -> None:
 
 
 def archives_checked(suite: Suite, page: Hands) -> None:
-    """What was changed in an archive is told, at its file, and is not opened."""
+    """A damaged archive is reported, with its file, and is not opened."""
     one, two = b"1; 1; 2; 3; 5; 2", b"1; 1; 2; 3; 6; 2"
     with tempfile.TemporaryDirectory() as name:
         path, stored, packed = pathlib.Path(name) / "two.zip", zipfile.ZIP_STORED, zipfile.ZIP_DEFLATED
@@ -90,7 +90,7 @@ def archives_checked(suite: Suite, page: Hands) -> None:
         place = data.find(b"two/activities") + len(b"two/activities")
         path.write_bytes(data[:place] + bytes([data[place] ^ 7]) + data[place + 1 :])
         suite.note("what is packed", {"told": damaged}, {"told": dropped(page, path)})
-        # Each file of the list is the first one of the archive, and so its bytes are many times what the archive has.
+        # Each entry of the directory is the first file of the archive, and so its bytes are many times those of the archive.
         bomb = pathlib.Path(name) / "bomb.zip"
         with zipfile.ZipFile(bomb, "w", packed) as archive:
             for number in range(200):
@@ -108,7 +108,7 @@ def archives_checked(suite: Suite, page: Hands) -> None:
 
 
 def memory_of(page: Hands, is_anew: bool = False) -> int:
-    """The most bytes that the process which draws the page had since it was asked anew, when what pages before have left is collected."""
+    """The peak memory of the process that draws the page since the last reset, after the garbage of earlier pages is collected."""
     if is_anew:
         page.call("HeapProfiler.collectGarbage")
     session, page._session = page._session, None
@@ -127,7 +127,7 @@ def memory_of(page: Hands, is_anew: bool = False) -> int:
 
 @within(600)
 def long_conversions(suite: Suite, page: Hands) -> None:
-    """Files of 64 MiB are converted while the page is usable, where that can be stopped, within 500 MB."""
+    """Files of 64 MiB are converted while the page is usable, and can be stopped, within 500 MB."""
     quotes = b"event\tline\n1\t" + b'"' * (LONGEST - 20)
     forms = {
         "tabs": ("activities", b"1\t1\t2\t3\t5\t2\n" * (LONGEST // 12), "activities file, record 2: activity number is repeated"),

@@ -1,4 +1,4 @@
-"""A station's board: a clock face, a list and a matrix, from any station's name and on paper; and what paper shows."""
+"""A station's board: a clock face, a list and a matrix, from any station's name and on paper; and what is printed."""
 
 from typing import Any
 
@@ -18,12 +18,12 @@ CONNECTED["labels"] += f"{NUMBER}; change\n"
 
 
 def station(page: Hands) -> Any:
-    """The station whose board is shown, '' where none is."""
+    """The station whose board is shown, '' if there is none."""
     return page.ask("Page.find('view-station').hidden ? '' : document.querySelector('#board .board')?.dataset.of ?? ''")
 
 
 def board(suite: Suite, page: Hands) -> None:
-    """The face, the list and the matrix have each arrival and departure, with the minutes had and wanted; a click chooses."""
+    """The face, the list and the matrix have each arrival and departure, with the actual and required minutes; a click chooses."""
     page.again()
     page.show(CONNECTED)
     page.ask("Page.choose(2); Page.showTab('station')")
@@ -115,7 +115,7 @@ def from_names(suite: Suite, page: Hands) -> None:
 
 
 def on_paper_as_chosen(suite: Suite, page: Hands) -> None:
-    """Paper has all lines and no board at first, then those that are chosen; another network begins anew."""
+    """Paper has all lines and no board at first, then the chosen ones; another network resets the choice."""
     page.again()
     shown = "[['.line h3 .pill', 'textContent'], ['.board h2', 'textContent'], ['.board svg.face', 'nodeName']].map(([each, what]) => [...document.querySelectorAll(`#printed ${each}`)].map(node => node[what]))"
 

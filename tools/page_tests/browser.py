@@ -24,7 +24,7 @@ QUIET = (
     "--disable-dev-shm-usage",
     "--js-flags=--stack-size=2000",
 )
-# The most that the browser may take for an answer, and the page until something holds: a machine may be slow, or stand still.
+# The greatest seconds for an answer of the browser, and for a condition in the page: a machine may be slow, or stand still.
 SECONDS, PATIENCE = 240, 120
 # A point of the page, from its left and its top.
 Place = Tuple[float, float]
@@ -36,11 +36,11 @@ def found() -> Optional[str]:
 
 
 class Failed(Exception):
-    """What the page threw, or what the browser refused."""
+    """An exception of the page, or a refusal of the browser."""
 
 
 class Browser:
-    """A browser with one page. `log` has what the page and the browser wrote, `requests` the addresses that were asked for."""
+    """A browser with one page. `log` has the messages of the page and the browser, `requests` the requested addresses."""
 
     def __init__(self, binary: str, size: Tuple[int, int] = (1440, 900)) -> None:
         self.size = size
@@ -81,7 +81,7 @@ class Browser:
         self.resize(*size)
 
     def resize(self, width: int, height: int, scale: float = 1) -> None:
-        """Gives the page a size in its own pixels; at 200 per cent that is half of the screen's."""
+        """Sets the size of the page in its own pixels; at 200 per cent that is half of the screen's."""
         self.call(
             "Emulation.setDeviceMetricsOverride", width=width, height=height, deviceScaleFactor=scale, mobile=False
         )
@@ -101,7 +101,7 @@ class Browser:
         if method == "Network.requestWillBeSent":
             self.requests.append(params["request"]["url"])
         elif method == "Page.javascriptDialogOpening":
-            # The page asks whether it may be left.
+            # The page asks before it is left.
             self.asked_to_stay += 1
             self._send("Page.handleJavaScriptDialog", {"accept": True})
         elif method == "Inspector.targetCrashed":
@@ -115,7 +115,7 @@ class Browser:
             self.log.append(" ".join(str(each.get("value", each.get("description"))) for each in params["args"]))
 
     def _send(self, method: str, params: Dict[str, Any]) -> int:
-        """Sends a call, and gives its number."""
+        """Sends a call, and returns its number."""
         with self._turn:
             self._last += 1
             message = {"id": self._last, "method": method, "params": params}
@@ -132,7 +132,7 @@ class Browser:
         while True:
             answer = self._answers.get(timeout=SECONDS)
             if answer["id"] is None:
-                # Who asks next is told at once, too.
+                # A later request fails at once, too.
                 self._answers.put(answer)
                 raise Failed("the browser ended")
             if answer["id"] == sent:
@@ -142,14 +142,14 @@ class Browser:
         return answer["result"]
 
     def open(self, address: str) -> None:
-        """Opens a page, and waits until it says that it is ready."""
+        """Opens a page, and waits until it is ready."""
         self.call("Page.navigate", url=address)
         self.until(
             "document.readyState === 'complete' && document.body.classList.contains('ready') && Page.readyAfter > 0"
         )
 
     def ask(self, expression: str) -> Any:
-        """The value of an expression in the page, once it is settled. Raises Failed with what it threw."""
+        """The value of an expression in the page, once it is settled. Raises Failed with an exception of it."""
         answer = self.call(
             "Runtime.evaluate", expression=expression, awaitPromise=True, returnByValue=True, userGesture=True
         )
@@ -173,7 +173,7 @@ class Browser:
             try:
                 return self.ask(waits)
             except Failed as fault:
-                # A page that is just being opened takes the question away with the one before it.
+                # A page that is being opened discards a request to the one before it.
                 if "context" not in str(fault) and "navigated" not in str(fault):
                     raise Failed(f"waited in vain for {condition}") from None
         raise Failed(f"waited in vain for {condition}")
@@ -215,7 +215,7 @@ class Browser:
             self.mouse("mouseReleased", x, y, each)
 
     def frame(self) -> None:
-        """Waits until what was done is on the screen."""
+        """Waits until the last changes are on the screen."""
         self.ask("new Promise(done => requestAnimationFrame(() => requestAnimationFrame(() => done(true))))")
 
     def key(self, name: str, code: int = 0, modifiers: int = 0) -> None:
@@ -225,14 +225,14 @@ class Browser:
         self.call("Input.dispatchKeyEvent", type="keyUp", **more)
 
     def picture(self, path: Union[str, "os.PathLike[str]"]) -> None:
-        """Writes what is seen as a PNG."""
+        """Writes the screen as a PNG."""
         import base64
 
         with open(path, "wb") as file:
             file.write(base64.b64decode(self.call("Page.captureScreenshot", format="png")["data"]))
 
     def close(self) -> None:
-        """Ends the browser, and takes its folder away."""
+        """Ends the browser, and removes its folder."""
         try:
             self._session = None
             self.call("Browser.close")

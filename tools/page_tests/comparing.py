@@ -1,4 +1,4 @@
-"""Two variants beside each other: kept, told, exchanged, and one of them taken over."""
+"""Two variants: kept, compared, exchanged, and one of them taken over."""
 
 import json
 import os
@@ -28,7 +28,7 @@ def keep(page: Hands, name: str) -> None:
 
 
 def kept(suite: Suite, page: Hands) -> None:
-    """What is shown is kept by a button or a key as A and as B; the other is what is shown until it is kept too."""
+    """The present state is kept by a button or a key as A and as B; the other is the present state until it is kept too."""
     page.again()
     page.press("tab-compare")
     suite.holds("nothing is kept", "Keep what is shown as A" in page.text("#compared-told") and not page.is_shown("take-A"))
@@ -50,7 +50,7 @@ def kept(suite: Suite, page: Hands) -> None:
 
 
 def in_fields(suite: Suite, page: Hands) -> None:
-    """The letters that keep are letters in a field."""
+    """The letters that keep a variant are letters in a field."""
     page.again()
     page.click(*page.middle("#finder input"))
     page.type("AB")
@@ -58,7 +58,7 @@ def in_fields(suite: Suite, page: Hands) -> None:
 
 
 def taken(suite: Suite, page: Hands) -> None:
-    """One of them is taken over in one step, which undo takes back; what is exchanged is only named otherwise."""
+    """One of them is taken over in one step, which undo reverts; an exchange only swaps the names."""
     page.again()
     page.show(TWO_TRAINS)
     keep(page, "A")
@@ -81,7 +81,7 @@ def taken(suite: Suite, page: Hands) -> None:
 
 
 def of_others(suite: Suite, page: Hands) -> None:
-    """A stays when something else is opened, of another period too, which is told and not taken over."""
+    """A stays when something else is opened, also of another period, which is compared and not taken over."""
     page.show(TWO_TRAINS, "a pair")
     keep(page, "A")
     page.ask("Page.openStory(Page.stories[0])")
@@ -97,13 +97,13 @@ def of_others(suite: Suite, page: Hands) -> None:
     suite.holds("drawn each by itself", page.ask("document.querySelectorAll('#view-compare .line > svg').length") >= 1)
 
 
-# Lines that change a region of 112 events in every way that is told.
+# Lines that change a region of 112 events in every way that is compared.
 CHANGES = ["span 1 9 22", "weight 3 77", "fix 2 5", "window 30 50 15", "drop activity 100", "add event 300", "add activity 300 4 300 3 9 5",
            "time 300 12", "time 7 1", "ends 90 5 8"]  # fmt: skip
 
 
 def said(page: Hands) -> Any:
-    """What the page says as the package's command does."""
+    """The page's text in the form of the package's command."""
     return page.ask("""(() => {
         const [before, after] = [window.first, Page.view], { network, times } = Page.differences(before, after), costs = Page.costsBeside(before, after);
         return { network: network.map(each => each.text), times: times.map(each => each.text), costs: costs && costs.map(row => row.map(String)) };
@@ -111,7 +111,7 @@ def said(page: Hands) -> Any:
 
 
 def by_package(page: Hands, folder: Path) -> Dict[str, Any]:
-    """What the package's `compare` says of the files of both."""
+    """The output of the package's `compare` on the files of both."""
     for name, view in (("before", "window.first"), ("after", "Page.view")):
         files = page.ask(f"Page.within({view}, () => Page.filesOf({view}.network, {view}.times))")
         (folder / name).mkdir()
@@ -131,7 +131,7 @@ def by_package(page: Hands, folder: Path) -> Dict[str, Any]:
 
 
 def as_package(suite: Suite, page: Hands) -> None:
-    """What they differ in is what the Python package's `compare` says."""
+    """The differences are those of the Python package's `compare`."""
     if not shutil.which("node"):
         return
     for title, lines in [("nothing", []), ("all", CHANGES), ("a time is missing", ["untime 3"]), ("all moved", None)]:
@@ -146,7 +146,7 @@ def as_package(suite: Suite, page: Hands) -> None:
 
 
 def drawn_beside(suite: Suite, page: Hands) -> None:
-    """The chosen line of both is in one drawing and one table, and connections with what they take in each."""
+    """The chosen line of both is in one drawing and one table, with the minutes of connections in each."""
     page.again()
     keep(page, "A")
     page.ask("Page.choose(21)")

@@ -1,4 +1,4 @@
-"""What is violated is seen where it is, and all that is drawn is chosen by a click and by keys."""
+"""Violations are visible at their places, and everything drawn is chosen by a click and by keys."""
 
 from typing import Any, Callable, Dict, Set
 
@@ -25,7 +25,7 @@ TEXTS = "[...document.querySelectorAll('SELECTOR')].map(each => each.firstChild 
 
 
 def violated(page: Hands, tab: str = "diagram") -> None:
-    """The two trains with what is violated, and a view beside them."""
+    """The two trains with their violations, and a view beside them."""
     begun(page, tab)
     page.ask(f"Page.step({LINES})")
     page.frame()
@@ -40,7 +40,7 @@ def colors(page: Hands, selector: str, name: str) -> Set[str]:
 
 
 def in_rows(suite: Suite, page: Hands) -> None:
-    """A row tells what ends there, and of other trains what begins there too; its time and diamond are red."""
+    """A row shows the violations that end there, and for other trains also those that begin there; its time and diamond are red."""
     violated(page)
     for event, told, note in [
         (1, [], ""),
@@ -70,7 +70,7 @@ def in_rows(suite: Suite, page: Hands) -> None:
 
 
 def in_views(suite: Suite, page: Hands) -> None:
-    """The diagram, the netgraph, the tables and the list have the minutes had and wanted, in red."""
+    """The diagram, the netgraph, the tables and the list have the actual and required minutes, in red."""
     violated(page)
     came = sorted(texts(page, "#diagram text.broken"))
     wanted = sorted([RUN, f"{DWELL} dwell", f"{CHANGE} change", f"{HEADWAY} headway", "not at :30"])
@@ -123,7 +123,7 @@ def in_views(suite: Suite, page: Hands) -> None:
     suite.note("without a time the others are told", {"it": "Of what has times: 1 event has no time.Mend all of it" + told}, {"it": page.text("#view-violated")})
 
 
-# The middle of what is found, which of a path lies on it.
+# The middle of an element; of a path a point on it.
 SPOT = """(() => {{
     const each = {0}, {{ left, top, width, height }} = each.getBoundingClientRect();
     if (!each.getTotalLength) return [left + width / 2, top + height / 2];
@@ -133,7 +133,7 @@ SPOT = """(() => {{
 
 
 def many(suite: Suite, page: Hands) -> None:
-    """Of very many that are violated some are drawn, soon, and words say so."""
+    """Of very many violations some are drawn, soon, and a remark says so."""
     more = "".join(f"{number}; 3; 5; 30; 40; 1\n" for number in range(100, 3_100))
     begun(page, activities=TRAINS["activities"] + more)
     came = {"drawn": page.ask("document.querySelectorAll('#diagram text.broken').length"), "row": texts(page, '[data-row="5"] .conflict')}
@@ -143,12 +143,12 @@ def many(suite: Suite, page: Hands) -> None:
 
 
 def led(page: Hands) -> Any:
-    """Which event is chosen, and which activity has the keys."""
+    """The chosen event, and the activity that has the focus."""
     return page.ask("[Page.chosen, Number(document.activeElement.closest('.card.chosen')?.dataset.activity || 0)]")
 
 
 def leading(suite: Suite, page: Hands) -> None:
-    """Each thing in red leads by a click to its activity, and each line of the list, by keys too."""
+    """Each red mark leads by a click to its activity, and each line of the list, also by keys."""
     for place, wanted in enumerate([[1, 1], [2, 2], [2, 4], [3, 6], [4, 0]]):
         violated(page, "violated")
         page.click(*page.middle(f"#view-violated .violated:nth-child({place + 1}) button"))
@@ -188,7 +188,7 @@ def turning(page: Hands) -> None:
 
 
 def choosing(suite: Suite, page: Hands) -> None:
-    """What is drawn is chosen by a click: ends of ways, texts, stations, other lines, lanes, numbers and cells."""
+    """Everything drawn is chosen by a click: ends of paths, texts, stations, other lines, lanes, numbers and cells."""
     begun(page)
     for name, place, wanted in [
         ("a run at its begin", (1, 0.2), 1),
@@ -228,7 +228,7 @@ def choosing(suite: Suite, page: Hands) -> None:
 
 
 def other_lines(suite: Suite, page: Hands) -> None:
-    """The way of another line in grey is chosen by a click, and its line is drawn then."""
+    """The path of another line in grey is chosen by a click, and then its line is drawn."""
     page.ask("Page.openStory(Page.stories[0]); Page.showTab('diagram')")
     page.frame()
     page.box("#diagram svg")
@@ -266,7 +266,7 @@ def all_by_keys(suite: Suite, page: Hands) -> None:
 
 
 def fitting(suite: Suite, page: Hands) -> None:
-    """With what is violated nothing is wider than the page, and no text is cut, on wide and on small screens."""
+    """With violations nothing is wider than the page, and no text is cut, on wide and on small screens."""
     for width, height in [(1360, 850), (800, 900), (390, 844)]:
         page.resize(width, height)
         shows: Dict[str, Callable[[Hands], None]] = {"two trains": violated, "a region": moved_region}

@@ -1,4 +1,4 @@
-"""Files of other forms are opened, with a word on what was converted; what can be read in two ways is not."""
+"""Files of other forms are opened, with a remark on the conversion; ambiguous ones are not."""
 
 import pathlib
 import tempfile
@@ -17,7 +17,7 @@ NAMES = "event; line; to; station; kind\n1; Ü; Nürnberg; Fürth; departure\n2;
 
 
 def given(page: Hands, files: Mapping[str, Union[bytes, str]]) -> None:
-    """Drops files that exist, by their bytes, on a page that nobody has touched."""
+    """Drops existing files, by their bytes, on a page that nobody has touched."""
     page.again()
     with tempfile.TemporaryDirectory() as folder:
         paths = [pathlib.Path(folder) / name for name in files]
@@ -27,7 +27,7 @@ def given(page: Hands, files: Mapping[str, Union[bytes, str]]) -> None:
 
 
 def converted(suite: Suite, page: Hands) -> None:
-    """Activities in other forms are the same activity, and a word says what was converted."""
+    """Activities in other forms are the same activity, and a remark names the conversion."""
     activity = {"number": 1, "first": 1, "last": 2, "lower": 3, "upper": 5, "weight": 2}
     forms: List[Tuple[str, Union[bytes, str], str]] = [
         ("as it is", ROW, ""),
@@ -54,7 +54,7 @@ def converted(suite: Suite, page: Hands) -> None:
 
 
 def others(suite: Suite, page: Hands) -> None:
-    """Files of times, windows, names and places are converted too, each with its word."""
+    """Files of times, windows, names and places are converted too, each with its remark."""
     files: Dict[str, Union[bytes, str]] = {
         "activities": TWO_TRAINS["activities"].replace("; ", "\t").encode("utf-16"),
         "times": "1; 0,0\n2; 3,0\n",
@@ -95,7 +95,7 @@ def others(suite: Suite, page: Hands) -> None:
 
 
 def doubtful(suite: Suite, page: Hands) -> None:
-    """What can be read in two ways, or has no whole number, is refused at its record, with what mends it."""
+    """An ambiguous number, and one that is not whole, is refused at its record, with a remedy."""
     for name, data, told, word in [
         ("thousands", f"{ROW}2; 2; 1; 4; 6; 1,000\n", "record 3: field 6 is not a number", "1,000 can be 1 or 1000."),
         ("a fraction", f"\n{TABS}2\t2\t1\t4\t6\t1,5\n", "record 3: weight has a fraction", ""),
@@ -113,7 +113,7 @@ def doubtful(suite: Suite, page: Hands) -> None:
 
 
 def dropped(page: Hands, files: Dict[str, bytes]) -> Dict[str, Any]:
-    """What the dialog tells of some files with a period, on a page that nobody has touched."""
+    """The dialog's message about some files with a period, on a page that nobody has touched."""
     page.again()
     with tempfile.TemporaryDirectory() as folder:
         for name, data in files.items():
@@ -126,7 +126,7 @@ def dropped(page: Hands, files: Dict[str, bytes]) -> Dict[str, Any]:
 
 
 def sheet() -> bytes:
-    """The beginning of a file of a spreadsheet."""
+    """The first bytes of a spreadsheet's file."""
     with tempfile.TemporaryDirectory() as folder:
         path = pathlib.Path(folder) / "sheet"
         with zipfile.ZipFile(path, "w") as archive:
@@ -135,7 +135,7 @@ def sheet() -> bytes:
 
 
 def other_forms(suite: Suite, page: Hands) -> None:
-    """What other programs write is told with what to do: spreadsheets, LinTim's events, names for numbers, and halves of minutes."""
+    """Files of other programs are explained: spreadsheets, LinTim's events, names instead of numbers, and half minutes."""
     row = b"1; 1; 2; 3; 5; 2\n"
     for name, files, told, word in [
         ("xlsx", {"activities.xlsx": sheet()}, "activities.xlsx is a spreadsheet in its own form, which is not read here", "Save each of its sheets as CSV"),
@@ -152,7 +152,7 @@ def other_forms(suite: Suite, page: Hands) -> None:
 
 
 def whole_minutes(suite: Suite, page: Hands) -> None:
-    """Numbers with a point before zeros, and times of the clock, are whole minutes, and a word says what was read so."""
+    """Numbers with a point before zeros, and clock times, are whole minutes, and a remark says so."""
     zeros, clock = "zeros after points left out", "times of the clock read as minutes"
     for name, rows, told in [
         ("zeros", "1.0; 1; 2.00; 3.0; 5; 2\n", zeros),

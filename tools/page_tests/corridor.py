@@ -10,9 +10,9 @@ from page_tests.fingers import tap, touch
 from page_tests.hands import Hands
 from tests.harness import Suite, within
 
-# A line, where it goes, and its stations with minutes.
+# A line, its destination, and its stations with minutes.
 Train = Tuple[str, str, Sequence[Tuple[str, int]]]
-# A line that stops at B and an express that passes it, two of each in an hour, a train back, and one of elsewhere.
+# A line that stops at B and an express that passes it, two of each in an hour, a train back, and one from elsewhere.
 TRAINS: List[Train] = [
     ("L", "C", [("A", 0), ("B", 10), ("B", 12), ("C", 20)]),
     ("L", "C", [("A", 30), ("B", 40), ("B", 42), ("C", 50)]),
@@ -24,7 +24,7 @@ TRAINS: List[Train] = [
 
 
 def texts_of(trains: Sequence[Train], headways: Sequence[Tuple[int, int, int, int]], period: int = 60) -> Dict[str, str]:
-    """The files of trains, each a line, where it goes and its stations with minutes, and of headways between events."""
+    """The files of trains, each a line, its destination and its stations with minutes, and of headways between events."""
     events: List[str] = []
     times: List[str] = []
     rows: List[str] = []
@@ -62,8 +62,8 @@ def corridor(page: Hands) -> Any:
 
 
 def points(page: Hands, selector: str) -> List[List[List[Tuple[int, str]]]]:
-    """Of each path of the corridor's diagram its points in minutes and stations."""
-    # Both are asked at once: the diagram is drawn again where its view gets another size.
+    """The points of each path of the corridor's diagram, in minutes and stations."""
+    # Both are asked at once, since the diagram is drawn again if its view changes size.
     heights, paths = page.ask(
         f"""[Object.fromEntries([...document.querySelectorAll('#corridor .station')].map((each, place) =>
         [each.getAttribute('d').match(/ ([0-9.]+)H/)[1], Page.corridor.stations[place]])),
@@ -81,7 +81,7 @@ def points(page: Hands, selector: str) -> List[List[List[Tuple[int, str]]]]:
 
 
 def stations_chosen(suite: Suite, page: Hands) -> None:
-    """Stations are chosen on the netgraph by clicks, keys and a finger, and by name; ways between them are filled in."""
+    """Stations are chosen on the netgraph by clicks, keys and a finger, and by name; routes between them are filled in."""
     page.again()
     page.press("tab-netgraph")
     page.click(*ring(page, "Gorsley"))
@@ -122,7 +122,7 @@ def stations_chosen(suite: Suite, page: Hands) -> None:
 
 
 def traffic(suite: Suite, page: Hands) -> None:
-    """All trains of all lines on the stations are drawn with their minutes, two in an hour and those that pass stations too."""
+    """All trains of all lines on the stations are drawn with their minutes, also two in an hour and those that pass stations."""
     page.again()
     page.show(HOURLY)
     page.press("tab-corridor")

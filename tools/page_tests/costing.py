@@ -1,4 +1,5 @@
-"""What each minute of an event and each length of an activity costs: worked out beside the hand, told, and taken over by a click."""
+"""The price of each minute of an event and each length of an activity: computed in the background, shown, and applied by a click.
+"""
 
 from typing import Any, Dict, List
 
@@ -10,7 +11,7 @@ from tests.harness import Suite, within
 
 CURVE, SUMMARY, AT = "#prices .curve", "#prices .priced p", "#prices .priced p:last-child"
 WHOLE = "!Page.find('prices').classList.contains('busy') && /^(Best|Each|No)/.test(document.querySelector('#prices .priced p').textContent)"
-# The least costs as whole runs of the program tell them, of an event at each of some minutes.
+# The least costs by whole runs of the program, of an event at each of some minutes.
 COSTS_OF_RUNS = """(() => {
     const { base, lines } = Page.present();
     return MINUTES.map(minute => Page.run(base, [...lines, `fix EVENT ${minute}`, 'optimum']).pop()[0].split(' ')[1] || 'none');
@@ -28,7 +29,7 @@ def asked(page: Hands, lines: List[str], event: int) -> None:
 
 
 def looked(page: Hands, minute: float, period: int = 10) -> str:
-    """What is told of a minute below a pointer, which it is not pressed at."""
+    """The text on a minute below a pointer that is not pressed."""
     left, top, width, height = page.box(CURVE)
     page.call("Input.dispatchMouseEvent", type="mouseMoved", x=left + width * (minute + 0.5) / period, y=top + height / 2)
     page.frame()
@@ -37,7 +38,7 @@ def looked(page: Hands, minute: float, period: int = 10) -> str:
 
 
 def priced(suite: Suite, page: Hands) -> None:
-    """Each minute has its price, the best is named, and a click on one holds the event there and takes its timetable over."""
+    """Each minute has its price, the best is named, and a click on one fixes the event there and takes its timetable over."""
     asked(page, ["fix 1 0"], 2)
     suite.note("all of them", {"told": "Best: :04, cost 4. No timetable: :00–:03, :06–:09."}, {"told": page.text(SUMMARY)})
     for minute, told in [(4, "at :04 the best is as good as any: cost 4"), (5, "at :05 the best costs 1 more"), (7, "at :07 there is no timetable")]:
@@ -59,7 +60,7 @@ def priced(suite: Suite, page: Hands) -> None:
 
 
 def priced_by_keys(suite: Suite, page: Hands) -> None:
-    """Arrow keys go through the minutes, each of which is told, and Enter takes one over; a tap of a finger does too."""
+    """Arrow keys go through the minutes, each of which is announced, and Enter applies one; a tap of a finger does too."""
     asked(page, ["fix 1 0"], 2)
     page.ask(f"document.querySelector('{CURVE}').focus()")
     told = []
@@ -82,7 +83,7 @@ def priced_by_keys(suite: Suite, page: Hands) -> None:
 
 
 def priced_lengths(suite: Suite, page: Hands) -> None:
-    """Each length of an activity has its price, and a click takes a timetable over in which it takes so long."""
+    """Each length of an activity has its price, and a click takes over a timetable with that length."""
     page.again()
     page.show(TWO_TRAINS)
     page.ask("Page.step(['fix 1 0']); Page.showRow(2)")
@@ -99,7 +100,7 @@ def priced_lengths(suite: Suite, page: Hands) -> None:
 
 @within(120)
 def priced_as_told(suite: Suite, page: Hands) -> None:
-    """In a region the prices are those of whole runs, of a train too; where nothing is held, they are one, and that is said."""
+    """In a region the prices are those of whole runs, also of a train; if nothing is held, they are equal, and the page says so."""
     page.again()
     page.press("ask-prices")
     page.until(WHOLE)
@@ -122,7 +123,7 @@ def priced_as_told(suite: Suite, page: Hands) -> None:
 
 
 def priced_beside(suite: Suite, page: Hands) -> None:
-    """While it is worked out the page is usable, and a step ends it and begins anew."""
+    """During the computation the page is usable, and a step restarts it."""
     page.again()
     page.show({"activities": "", "lines": LONG, "period": "60"})
     page.press("ask-prices")

@@ -1,4 +1,4 @@
-"""Drafts: kept in the browser where the planner says so, offered after a crash, and dropped by a click."""
+"""Drafts: kept in the browser if the planner agrees, offered after a crash, and dropped by a click."""
 
 import os
 import signal
@@ -12,7 +12,7 @@ from tests.harness import Suite
 KEPT = "Object.keys(localStorage).filter(key => key.startsWith('pespbench-draft-')).length"
 NO_STORAGE = "Object.defineProperty(window, 'localStorage', { get() { throw new DOMException('no', 'SecurityError'); } }); 0"
 
-# Fills what the browser keeps, by ever smaller parts.
+# Fills the browser's storage, in ever smaller parts.
 FILLED = """for (let size = 1 << 22; size > 4; size >>= 1) {
     try {
         for (let place = 0; ; place += 1) localStorage.setItem(`x${size}-${place}`, 'x'.repeat(size));
@@ -21,14 +21,14 @@ FILLED = """for (let size = 1 << 22; size > 4; size >>= 1) {
 
 
 def forget(page: Hands) -> None:
-    """A page with nothing kept."""
+    """A page with empty storage."""
     page.again()
     page.ask("localStorage.clear()")
     page.again()
 
 
 def tick(page: Hands) -> str:
-    """Ticks or unticks that a draft is kept, by a click."""
+    """Ticks or unticks the keeping of drafts, by a click."""
     page.press("save")
     page.press("keep-draft")
     told = page.text("#draft-told")
@@ -37,7 +37,7 @@ def tick(page: Hands) -> str:
 
 
 def crash(page: Hands) -> None:
-    """Kills what draws the page, by its number, and opens the page anew."""
+    """Kills the process that draws the page, by its number, and opens the page again."""
     session, page._session = page._session, None
     processes = page.call("SystemInfo.getProcessInfo")["processInfo"]
     page._session = session
@@ -45,7 +45,7 @@ def crash(page: Hands) -> None:
     for process in processes:
         if process["type"] == "renderer":
             os.kill(process["id"], signal.SIGKILL)
-    # What is asked before the browser has seen it is never answered.
+    # A request that the browser has not seen is never answered.
     for _ in range(600):
         if page.crashes > before:
             break
@@ -58,13 +58,13 @@ def is_kept(page: Hands) -> None:
 
 
 def open_first(page: Hands) -> None:
-    """Opens the first draft that is listed, and waits until that is told: the page asks first whether another one holds it."""
+    """Opens the first listed draft, and waits for the message: the page asks first whether another one holds it."""
     page.click(*page.middle("#drafts .main"))
     page.until("/^the draft of|^The draft cannot/i.test(Page.find('said').textContent)")
 
 
 def draft_kept(suite: Suite, page: Hands) -> None:
-    """Nothing is kept before the planner says so; then what is not saved is there after a crash, with all of its steps."""
+    """Nothing is kept before the planner agrees; then unsaved work exists after a crash, with all of its steps."""
     forget(page)
     page.drag([page.minute(1, 20), page.minute(1, 30)])
     page.ask("new Promise(done => setTimeout(done, 600))")
@@ -97,7 +97,7 @@ def draft_kept(suite: Suite, page: Hands) -> None:
 
 
 def draft_of_names(suite: Suite, page: Hands) -> None:
-    """Names that were given and activities that were added are in a draft, with the names alone too."""
+    """New names and added activities are in a draft, also names alone."""
     scripts: List[Tuple[str, str, List[str]]] = [
         ("names alone", "Page.addLabels('event\\n1; R9; Inworth; Gorsley; departure\\n')", []),
         ("and a step", "Page.addLabels('event\\n1; R9; Inworth; Gorsley; departure\\n'); Page.step(['fix 1 30'])", ["fix 1 30"]),
@@ -121,7 +121,7 @@ def draft_of_names(suite: Suite, page: Hands) -> None:
 
 
 def drafts_dropped(suite: Suite, page: Hands) -> None:
-    """A draft is gone when it is dropped, when all is saved, and when no draft is to be kept."""
+    """A draft is removed when it is dropped, when all is saved, and when no draft is to be kept."""
     forget(page)
     tick(page)
     page.drag([page.minute(1, 20), page.minute(1, 30)])
@@ -146,7 +146,7 @@ def drafts_dropped(suite: Suite, page: Hands) -> None:
 
 
 def draft_asked(suite: Suite, page: Hands) -> None:
-    """A draft is opened on work that is not saved by a second click alone; each of two pages has its own."""
+    """A draft replaces unsaved work only at a second click; each of two pages has its own."""
     forget(page)
     tick(page)
     page.drag([page.minute(1, 20), page.minute(1, 30)])
@@ -167,7 +167,7 @@ def draft_asked(suite: Suite, page: Hands) -> None:
 
 
 def drafts_strange(suite: Suite, page: Hands) -> None:
-    """What is no draft is told as such and can be dropped; nothing in one acts, and a line that is refused opens nothing."""
+    """An invalid draft is reported as such and can be dropped; nothing in one acts, and a refused line opens nothing."""
     forget(page)
     base = '{"title":"<img src=x onerror=hostile=1>","at":0,"labels":"","files":{"activities":"1; 1; 2; 3; 5; 2\\\\n","period":"10"},"steps":STEPS}'
     unread = "A draft in this browser cannot be read."
@@ -197,7 +197,7 @@ def drafts_strange(suite: Suite, page: Hands) -> None:
 
 
 class Second:
-    """Another page of the same browser, over which the hands are for a while."""
+    """Another page of the same browser, to which the input goes for a while."""
 
     def __init__(self, page: Hands) -> None:
         self.page, self.first = page, page._session
@@ -212,7 +212,7 @@ class Second:
         return self
 
     def turn(self, session: Optional[str]) -> None:
-        """Goes to one of the two pages."""
+        """Switches to one of the two pages."""
         self.page._session = session
         self.page.call("Page.bringToFront")
 
@@ -228,7 +228,8 @@ STEPS_KEPT = f"{KEYS}.map(key => JSON.parse(localStorage[key]).steps.flat().join
 
 
 def drafts_apart(suite: Suite, page: Hands) -> None:
-    """A draft is the page's that holds it: another one opens a copy, drops none of it, and takes none of it by saving its own."""
+    """A draft belongs to the page that holds it: another one opens a copy, drops none of it, and removes none of it by saving its
+    own."""
     forget(page)
     tick(page)
     page.drag([page.minute(1, 20), page.minute(1, 30)])
@@ -263,7 +264,7 @@ def drafts_apart(suite: Suite, page: Hands) -> None:
 
 
 def drafts_refused(suite: Suite, page: Hands) -> None:
-    """A browser that lets nothing be kept, or has no room, is told of, and the page works on."""
+    """A browser that refuses storage, or has no room, is reported, and the page continues."""
     forget(page)
     page.ask(NO_STORAGE)
     told = tick(page)

@@ -1,4 +1,4 @@
-"""What is dragged on strips and tracks, taken back and done again."""
+"""Drags on strips and tracks, undone and redone."""
 
 from page_tests.hands import TWO_TRAINS, Hands
 from tests.harness import Suite
@@ -54,7 +54,7 @@ def holding(suite: Suite, page: Hands) -> None:
 
 
 def windows(suite: Suite, page: Hands) -> None:
-    """The ends of a window are dragged, and the whole of it, over the end of the period too."""
+    """The ends of a window are dragged, and the whole of it, also over the end of the period."""
     page.show(TWO_TRAINS)
     page.ask("Page.step(['window 1 2 3'])")
     page.frame()
@@ -139,7 +139,7 @@ def spans(suite: Suite, page: Hands) -> None:
 
 
 def undoing(suite: Suite, page: Hands) -> None:
-    """Each step is taken back and done again, and the state is then the same; a step after an undo ends what could be done again."""
+    """Each step is undone and redone, and the state is then the same; a step after an undo discards the undone ones."""
     page.show(TWO_TRAINS)
     steps = [
         "fix 1 0",
@@ -172,7 +172,7 @@ def undoing(suite: Suite, page: Hands) -> None:
         {"lines": [*steps[:-1], "weight 1 8"], "redo": True},
         {"lines": page.lines(), "redo": page.ask("Page.find('redo').disabled")},
     )
-    # After hundreds of steps the session is at the state of each of them, with windows, times and lonely events too.
+    # After hundreds of steps the session is at the state of each of them, also with windows, times and isolated events.
     page.ask("for (const line of ['time 1 0', 'time 9 3', 'window 9 2 3']) Page.step([line])")
     page.ask("for (let count = 0; count < 350; count += 1) Page.step([`fix 2 ${count % 10}`])")
     state = page.state()
@@ -185,7 +185,7 @@ def undoing(suite: Suite, page: Hands) -> None:
 
 
 def refusals(suite: Suite, page: Hands) -> None:
-    """A line that is refused changes nothing, and its reply is told."""
+    """A refused line changes nothing, and its reply is shown."""
     page.show(TWO_TRAINS)
     page.ask("Page.showTab('lines')")
     state = page.state()

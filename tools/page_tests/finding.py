@@ -1,4 +1,4 @@
-"""A station, a line or an event is found by what is typed of its name."""
+"""A station, a line or an event is found by a typed part of its name."""
 
 import time
 from typing import Any, Callable, Dict, Tuple
@@ -14,12 +14,12 @@ FOUND = "[...document.querySelectorAll('#finder [role=option]')].map(each => eac
 
 
 def found(page: Hands) -> Any:
-    """What the list shows."""
+    """The matches in the list."""
     return page.ask(FOUND)
 
 
 def found_by_typing(suite: Suite, page: Hands) -> None:
-    """Enter takes the best of what is found, and shows it where it is."""
+    """Enter chooses the best match, and shows it in its place."""
     page.again()
     for text, first, wanted in [
         ("kelby", "Kelby station, 14 events", {"chosen": 6, "tab": "netgraph", "line": "R1"}),
@@ -39,7 +39,7 @@ def found_by_typing(suite: Suite, page: Hands) -> None:
 
 
 def led_to_a_bar(suite: Suite, page: Hands) -> None:
-    """A train that is found has the keys on its bar, and arrows move it; without times they are in its first row."""
+    """A train that is found has the focus on its bar, and arrows move it; without times its first row has it."""
     page.again()
     page.type("/")
     page.type("r3 to kelby")
@@ -56,7 +56,7 @@ def led_to_a_bar(suite: Suite, page: Hands) -> None:
 
 
 def listed(suite: Suite, page: Hands) -> None:
-    """The list is gone through by keys, taken from by a mouse and a finger, and closed by Escape."""
+    """One goes through the list by keys, chooses by a mouse and a finger, and closes it by Escape."""
     page.again()
     page.ask("document.activeElement.blur()")
     page.type("/")
@@ -96,7 +96,7 @@ def listed(suite: Suite, page: Hands) -> None:
 
 
 def found_names(suite: Suite, page: Hands) -> None:
-    """Names are found without their accents, and what is in them stays a text; without labels there are events alone."""
+    """Names are found without their accents, and remain plain text; without labels there are only events."""
     page.again()
     page.show(texts_of([("Ü1", "<b>Zürich</b>", [("Genève", 0), ("<b>Zürich</b>", 10)]), *TRAINS], []))
     for text, wanted in [
@@ -120,7 +120,7 @@ def found_names(suite: Suite, page: Hands) -> None:
 
 
 def met(page: Hands) -> Tuple[Dict[str, str], Dict[str, str]]:
-    """The station of the chosen event, and what is seen where it is on the netgraph."""
+    """The station of the chosen event, and the visible element at its place on the netgraph."""
     station = page.ask("Page.labelOf(Page.chosen).station")
     x, y = page.ask(
         f"""(() => {{

@@ -1,4 +1,4 @@
-"""A finger on the page, by real events of touch."""
+"""A finger on the page, by real touch events."""
 
 from typing import Sequence
 
@@ -6,9 +6,9 @@ from page_tests.browser import Browser, Place
 
 
 def touch(page: Browser, is_on: bool = True) -> None:
-    """Gives the screen fingers, or takes them away."""
+    """Gives the screen touch, or removes it."""
     page.call("Emulation.setTouchEmulationEnabled", enabled=is_on, maxTouchPoints=1)
-    # Buttons are larger for fingers, which moves what lies below them.
+    # Buttons are larger on touch screens, which moves the elements below them.
     page.until(f"matchMedia('(pointer: coarse)').matches === {str(is_on).lower()}")
     page.frame()
 

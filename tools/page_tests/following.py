@@ -1,4 +1,5 @@
-"""The session that the page keeps: after steps, steps of a drag, undo and redo it is at the state that a whole run tells, and no fault loses one."""
+"""The session that the page keeps: after steps, steps of a drag, undo and redo it has the state of a whole run, and no fault loses
+one."""
 
 import json
 
@@ -7,7 +8,7 @@ from tests.harness import Suite, within
 
 FILES = {**TWO_TRAINS, "events": "7\n8\n", "windows": "1; 8; 4\n8; 2; 1\n", "times": "1; 0\n2; 3\n7; 5\n8; 2\n"}
 ACTIONS = 400
-# Draws what is done next, and compares what is shown with what a run over all lines tells; the first difference is given.
+# Draws the next action, and compares the state shown with that of a run over all lines; returns the first difference.
 DRAWN = """(() => {
     let seed = SEED, refused = 0, count = 0;
     const below = most => (seed = (seed * 48271) % 2147483647) % most, one = (...of) => of[below(of.length)];
@@ -58,7 +59,7 @@ DRAWN = """(() => {
 })()"""
 
 
-# Stands in for pesp_domain where a module has none: the line `domain` answers it.
+# Stands in for pesp_domain if a module has none: the line `domain` answers it.
 DOMAINS = """(() => {
     const { open } = PespModule, size = 1 << 12;
     const withDomains = calls => {
@@ -82,7 +83,8 @@ DOMAINS = """(() => {
 
 @within(120)
 def drawn_steps(suite: Suite, page: Hands) -> None:
-    """Whatever is done, what is shown is what a whole run over all lines tells, which is told the network too; by lines and in numbers."""
+    """Whatever is done, the state shown is that of a whole run over all lines, which is also given the network; by lines and in
+    numbers."""
     for seed, shim in ((11, "0"), (12, "0"), (13, "0"), (14, DOMAINS)):
         page.again()
         page.ask(shim)
@@ -91,8 +93,8 @@ def drawn_steps(suite: Suite, page: Hands) -> None:
         suite.holds(f"seed {seed}: {json.dumps(came)}", set(came) == {"refused"} and 20 < came["refused"] < ACTIONS / 2)
 
 
-# The same of the diagram, of which a step draws those parts alone that it changes: the first act after which it is not what is drawn of
-# nothing is given, and else how many diagrams were other ones than before.
+# The same for the diagram, of which a step draws only the changed parts: the first action after which it differs from one drawn
+# from nothing is returned, or otherwise how many diagrams differed from the one before.
 PARTS = """(() => {
     let seed = SEED, changes = 0, before = '';
     const below = most => (seed = (seed * 48271) % 2147483647) % most, one = of => of[below(of.length)];
@@ -124,14 +126,14 @@ PARTS = """(() => {
 
 @within(120)
 def drawn_in_parts(suite: Suite, page: Hands) -> None:
-    """Whatever is done, the diagram is what is drawn of nothing."""
+    """Whatever is done, the diagram is the one drawn from nothing."""
     for seed in (21, 22, 23):
         page.again()
         came = page.ask(PARTS.replace("SEED", str(seed)).replace("ACTIONS", str(ACTIONS)))
         suite.holds(f"seed {seed}: {json.dumps(came)[:3000]}", set(came) == {"changes"} and came["changes"] > ACTIONS / 5)
 
 
-# The next calls of a session want memory, or are trapped.
+# The next calls of a session run out of memory, or trap.
 FAILING = """(() => {
     const { ask, domains } = PespModule;
     window.left = COUNT;
@@ -146,7 +148,7 @@ FAILING = """(() => {
 
 
 def failing(suite: Suite, page: Hands) -> None:
-    """A session that fails is opened anew at the state shown, whatever it failed at; where memory was wanted, the step is done then."""
+    """A failed session is reopened at the state shown, wherever it failed; after out of memory, the step is done then."""
     for name, line, is_trap, count, wanted in [
         ("memory for a line", "fix 2 5", "false", 1, ["fix 1 2", "fix 2 5"]), ("memory for a question", "violations", "false", 1, ["fix 1 2", "fix 2 5"]),
         ("memory again and again", "fix 2 5", "false", 2, ["fix 1 2"]), ("a trap at a line", "fix 2 5", "true", 1, ["fix 1 2"]),

@@ -1,4 +1,4 @@
-"""What would help: the best timetable with a minute more at each activity, listed as it comes, stopped, and taken over."""
+"""What would help: the best timetable with one more minute at each activity, listed as it arrives, stopped, and taken over."""
 
 import json
 from typing import Any, List, Sequence
@@ -10,7 +10,8 @@ from tests.harness import Suite, within
 
 DONE = "Page.find('stop').hidden"
 ROWS = "[...document.querySelectorAll('#gains [data-gain]')].map(row => [Number(row.dataset.gain), row.querySelector('.saved').textContent])"
-# Two trains that have to meet at both ends: each of the changes costs, and a minute more of one or of a turn lets them meet better.
+# Two trains that have to meet at both ends: each of the changes costs, and one more minute of one or of a turn lets them meet
+# better.
 TURNS = {
     "activities": "1; 1; 2; 10; 10; 1\n2; 2; 3; 3; 5; 4\n3; 3; 4; 10; 10; 1\n4; 4; 1; 4; 6; 2\n5; 2; 1; 3; 30; 9\n",
     "labels": "event; line; to; station; kind\n1; M; B; A; departure\n2; M; B; B; arrival\n3; M; A; B; departure\n4; M; A; A; arrival\n"
@@ -20,14 +21,14 @@ TURNS = {
 
 
 def choose(page: Hands, kinds: Sequence[str], way: str = "more") -> None:
-    """Ticks just some kinds, and chooses what each is given."""
+    """Ticks only some kinds, and chooses their change."""
     page.press("tab-gains")
     page.ask(f"""document.querySelectorAll('#allowed-kinds input').forEach(box => {{ box.checked = {json.dumps(kinds)}.includes(box.value); }});
         Page.find('gain-way').value = '{way}'""")
 
 
 def best(page: Hands, lines: Sequence[str] = ()) -> int:
-    """The cost of the best timetable with some lines more, which is there."""
+    """The cost of the best timetable with some additional lines, which exists."""
     reply = page.ask(f"(() => {{ const {{ base, lines }} = Page.present(); return Page.run(base, [...lines, ...{json.dumps(list(lines))}, 'optimum']).pop()[0]; }})()")
     words = reply.split()
     assert words[0] == "optimum"
@@ -53,7 +54,7 @@ def wanted(page: Hands, numbers: Sequence[int], way: str) -> List[List[Any]]:
 
 @within(240)
 def gains_asked(suite: Suite, page: Hands) -> None:
-    """Each of the kinds that are ticked is asked, and listed by what it saves; the others are not."""
+    """Each activity of the ticked kinds is tried, and listed by what it saves; the others are not."""
     page.again()
     ticked = page.ask("[...document.querySelectorAll('#allowed-kinds input:checked')].map(box => box.value)")
     suite.note("runs, dwells and headways are not ticked at first", {"kinds": ["change", "turnaround"]}, {"kinds": ticked})
@@ -73,7 +74,7 @@ def gains_asked(suite: Suite, page: Hands) -> None:
 
 
 def gains_taken(suite: Suite, page: Hands) -> None:
-    """One is taken over with its best timetable, by a click or by keys, in one step; the list is there again after Undo."""
+    """One is taken over with its best timetable, by a click or by keys, in one step; the list returns after Undo."""
     page.again()
     page.show(TURNS)
     for hands in ("mouse", "keys"):
@@ -107,7 +108,7 @@ def gains_taken(suite: Suite, page: Hands) -> None:
 
 
 def gains_watched(suite: Suite, page: Hands) -> None:
-    """The list grows while it is asked, is stopped at once, and stays; a step ends the asking too."""
+    """The list grows during the search, is stopped at once, and stays; a step ends the search too."""
     page.again()
     choose(page, ["change", "dwell", "headway", "run", "turnaround"])
     page.press("ask-gains")
@@ -134,7 +135,7 @@ def gains_watched(suite: Suite, page: Hands) -> None:
 
 
 def gains_without_any(suite: Suite, page: Hands) -> None:
-    """Where there is no timetable, those are listed that let one be."""
+    """If there is no timetable, the changes that give one are listed."""
     page.again()
     page.show({**TWO_TRAINS, "times": "", "activities": "1; 1; 2; 3; 4; 2\n2; 2; 1; 4; 5; 1\n"})
     choose(page, ["run", "activity"])

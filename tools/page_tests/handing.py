@@ -1,4 +1,4 @@
-"""A network that is handed over: under a name, by a link that has it, and on paper."""
+"""A network is handed over: under a name, by a link that contains it, and on paper."""
 
 import base64
 import json
@@ -21,14 +21,14 @@ CONNECTIONS = """[...document.querySelectorAll('#printed .connections tbody tr')
 
 
 def fragment(data: bytes) -> str:
-    """The fragment of a link that has these bytes."""
+    """The fragment of a link with these bytes."""
     packer = zlib.compressobj(9, zlib.DEFLATED, -15)
     packed = base64.urlsafe_b64encode(packer.compress(data) + packer.flush()).decode().rstrip("=")
     return f"#network={zlib.crc32(data):08x}.{packed}"
 
 
 def linked(page: Hands) -> str:
-    """The link that the dialog gives."""
+    """The link in the dialog."""
     page.press("save")
     page.press("copy-link")
     page.until("Page.find('link-told').textContent !== ''")
@@ -38,14 +38,14 @@ def linked(page: Hands) -> str:
 
 
 def reload(page: Hands) -> None:
-    """Opens the address that the page has in a new page."""
+    """Opens the address of the page in a new page."""
     page.ask("window.isOld = true")
     page.call("Page.reload")
     page.until("!window.isOld && document.body.classList.contains('ready')")
 
 
 def named(suite: Suite, page: Hands) -> None:
-    """A name that is typed is the page's, the archive's and its folder's, and comes back with them."""
+    """A typed name is the page's, the archive's and its folder's, and returns with them."""
     page.again()
     with tempfile.TemporaryDirectory() as folder:
         page.call("Browser.setDownloadBehavior", behavior="allow", downloadPath=folder)
@@ -80,7 +80,7 @@ def named(suite: Suite, page: Hands) -> None:
 
 
 def links_opened(suite: Suite, page: Hands) -> None:
-    """A link opens as the network that it was made of, in a new page and in one that is open, and by the clipboard."""
+    """A link opens as its network, in a new page and in an open one, and from the clipboard."""
     page.again()
     page.drag([page.minute(1, 20), page.minute(1, 30)])
     page.drag([page.grip(2, "now"), page.minute(2, 50)])
@@ -113,7 +113,7 @@ def links_opened(suite: Suite, page: Hands) -> None:
 
 
 def link_asked(suite: Suite, page: Hands) -> None:
-    """A link on work that is not saved is opened by a click alone."""
+    """A link on unsaved work is opened only by a click."""
     page.again()
     link = linked(page)
     page.show(TWO_TRAINS)
@@ -128,7 +128,7 @@ def link_asked(suite: Suite, page: Hands) -> None:
 
 
 def link_of_names(suite: Suite, page: Hands) -> None:
-    """A link of labels alone, which would change the names of what is open, is opened by a click alone, with a word on that."""
+    """A link of labels alone, which would change the names of the open network, is opened only by a click, with a remark."""
     page.again()
     page.show(TWO_TRAINS)
     before = page.ask(NAMES)
@@ -145,7 +145,7 @@ def link_of_names(suite: Suite, page: Hands) -> None:
 
 
 def links_refused(suite: Suite, page: Hands) -> None:
-    """Links that are too long, damaged, bombs or no networks are refused with a word, and nothing is lost."""
+    """Links that are too long, damaged, bombs or not networks are refused with a remark, and nothing is lost."""
     page.again()
     page.show(TWO_TRAINS)
     page.drag([page.minute(1, 2), page.minute(1, 5)])
@@ -193,7 +193,7 @@ def links_refused(suite: Suite, page: Hands) -> None:
 
 
 def too_large(suite: Suite, page: Hands) -> None:
-    """A network that is too large for a link is told, and gives none."""
+    """A network that is too large for a link is reported, and gives none."""
     page.again()
     rows = ((each, each * 7919 % 50_000, each * 104_729 % 50_000 + 50_000, each * 31 % 997) for each in range(9_000))
     page.show({"activities": "".join("%d; %d; %d; 3; 5; %d\n" % row for row in rows), "period": "60"})
@@ -207,7 +207,7 @@ def too_large(suite: Suite, page: Hands) -> None:
 
 
 def link_without(suite: Suite, page: Hands) -> None:
-    """Where a browser lends no clipboard the link is copied as a selection is, and one that cannot pack says so."""
+    """Without a clipboard the link is copied as a selection is, and a browser that cannot pack says so."""
     page.again()
     page.ask("Object.defineProperty(navigator, 'clipboard', { value: undefined }); 0")
     linked(page)
@@ -223,7 +223,7 @@ def link_without(suite: Suite, page: Hands) -> None:
 
 
 def on_paper(suite: Suite, page: Hands) -> None:
-    """On paper stand the name, the date, the netgraph with its times, and the connections of each station."""
+    """Paper has the name, the date, the netgraph with its times, and the connections of each station."""
     page.again()
     page.press("tab-netgraph")
     screen = page.ask("Page.find('netgraph').innerHTML")

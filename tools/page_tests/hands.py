@@ -1,4 +1,4 @@
-"""The page in a browser, and where its handles are."""
+"""The page in a browser, and the places of its handles."""
 
 import json
 from typing import Any, Dict, List, Mapping, Tuple
@@ -23,14 +23,14 @@ class Hands(Browser):
         self.open(address)
 
     def show(self, texts: Mapping[str, str], title: str = "a test") -> None:
-        """Opens the texts of files by their kinds; nothing of before is left."""
+        """Opens the texts of files by their kinds; nothing of the old network remains."""
         self.ask(
             f"document.querySelectorAll('dialog[open]').forEach(each => each.close()); Page.openTexts({json.dumps(texts)}, {json.dumps(title)})"
         )
         self.frame()
 
     def box(self, selector: str) -> List[float]:
-        """The left and top edge, the width and the height of an element, which is scrolled to where it is seen."""
+        """The left and top edge, the width and the height of an element, which is scrolled into view."""
         edges: List[float] = self.ask(
             f"""(() => {{
             const found = document.querySelector({json.dumps(selector)});
@@ -47,12 +47,12 @@ class Hands(Browser):
         return left + width / 2, top + height / 2
 
     def minute(self, event: int, minute: float) -> Place:
-        """Where a minute is on the strip of an event."""
+        """The place of a minute on the strip of an event."""
         left, top, width, height = self.box(f'.strip[data-event="{event}"]')
         return left + width * (minute + 0.5) / self.ask("Page.view.network.period"), top + height / 2
 
     def unit(self, activity: int, minutes: float) -> Place:
-        """Where so many minutes are on the track of an activity."""
+        """The place of a number of minutes on the track of an activity."""
         left, top, width, height = self.box(f'[data-activity="{activity}"] .track')
         least, count = self.ask(f"Page.rangeShown({activity})")
         return left + width * (minutes - least + 0.5) / count, top + height / 2
@@ -72,7 +72,7 @@ class Hands(Browser):
         return lines
 
     def said(self) -> str:
-        """What is told below the buttons."""
+        """The message below the buttons."""
         return self.text("#said")
 
     def text(self, selector: str) -> str:
@@ -89,12 +89,12 @@ class Hands(Browser):
         self.until("Page.find('netgraph').getAttribute('aria-busy') !== 'true'")
 
     def press(self, identifier: str) -> None:
-        """Clicks what has an id, where it is."""
+        """Clicks the element of an id."""
         self.click(*self.middle(f"#{identifier}"))
         self.frame()
 
     def again(self) -> None:
-        """Opens the page anew, as nobody has touched it."""
+        """Reloads the page, untouched."""
         self.open(self.address)
 
     def type(self, text: str) -> None:
@@ -106,12 +106,12 @@ class Hands(Browser):
         self.frame()
 
     def fill(self, selector: str, text: str) -> None:
-        """Types a text in a field, in the place of what stands there."""
+        """Types a text in a field, replacing its contents."""
         self.click(*self.middle(selector), count=3)
         self.type(text)
 
     def drop(self, *paths: object) -> None:
-        """Drops files and folders that exist on the page, and waits until they are opened or looked at."""
+        """Drops existing files and folders on the page, and waits until they are opened or examined."""
         self.ask("Page.say('')")
         data = {"items": [], "files": [str(path) for path in paths], "dragOperationsMask": 1}
         for kind in ("dragEnter", "dragOver", "drop"):
@@ -120,17 +120,17 @@ class Hands(Browser):
         self.frame()
 
     def opening(self) -> Dict[str, Any]:
-        """What the dialog of files tells: whether it is open, its fault and its help."""
+        """The state of the dialog of files: whether it is open, its fault and its help."""
         is_open = self.ask("Page.find('opening').open")
         return {"open": is_open, "told": self.text("#opening-fault"), "help": self.text("#opening-help")}
 
     def is_shown(self, identifier: str) -> bool:
-        """Whether what has an id is there to be seen."""
+        """Whether the element of an id is visible."""
         is_shown: bool = self.ask(f"Page.find({json.dumps(identifier)})?.getClientRects().length > 0")
         return is_shown
 
     def state(self) -> str:
-        """All that the program told of the state shown, as one text."""
+        """All replies of the program on the state shown, as one text."""
         state: str = self.ask(
             """(({ network, domains, times, tensions, cost }) => JSON.stringify([
                 network.events, [...network.windows], [...network.activities.values()], [...domains], [...times],
@@ -140,7 +140,7 @@ class Hands(Browser):
         return state
 
     def shown(self) -> str:
-        """What is drawn, as one text: rows with their strips and what stands in them, figures, and the chosen event's activities."""
+        """The drawing, as one text: rows with their strips and their contents, figures, and the chosen event's activities."""
         drawn: str = self.ask(
             """[...document.querySelectorAll('[data-row] path, [data-row] .time, [data-row] .note, .figure, .told, .fields input')]
             .map(each => each.getAttribute('d') || each.value || each.textContent).join('|')"""

@@ -1,4 +1,4 @@
-"""The page by the keyboard alone, and what a screen reader is told."""
+"""The page by the keyboard alone, and what a screen reader announces."""
 
 from page_tests.hands import TWO_TRAINS, Hands
 from tests.harness import Suite
@@ -17,7 +17,7 @@ CODES = {
 
 
 def strips(suite: Suite, page: Hands) -> None:
-    """What holds an event is moved, lengthened and let go by keys."""
+    """The window of an event is moved, lengthened and removed by keys."""
     page.show(TWO_TRAINS)
     page.ask("Page.showRow(1)")
     for name, modifiers, line in [

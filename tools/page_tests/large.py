@@ -9,7 +9,7 @@ REGIONS = 19
 
 
 def with_train(texts: Mapping[str, str]) -> Dict[str, str]:
-    """The same files, where the first line's trains are one of 20 events: what turns at its end dwells there."""
+    """The same files, with the first line's trains as one of 20 events: it turns at its end by a dwell."""
     first = ""
     labels: List[str] = []
     for row in texts["labels"].splitlines():
@@ -22,7 +22,7 @@ def with_train(texts: Mapping[str, str]) -> Dict[str, str]:
 
 
 def texts(count: int = REGIONS, unmet: int = 0) -> Dict[str, str]:
-    """The texts of its files by their kinds. The region `unmet` has no timetable, from 1 up, or each has one where it is 0."""
+    """The texts of its files by their kinds. The region `unmet`, from 1 up, has no timetable; with 0 each has one."""
     activities: List[str] = []
     times: List[str] = []
     events: List[str] = []

@@ -1,4 +1,4 @@
-"""Lines and trains from labels, where stations are laid out, the room that a netgraph has, and the marks of an axis."""
+"""Lines and trains from labels, the layout of stations, the room of a netgraph, and the marks of an axis."""
 
 import json
 from itertools import combinations
@@ -15,7 +15,7 @@ CLEARANCE = 26
 
 
 def laid_out_by(page: Hands, stations: Sequence[str], lengths: Sequence[Tuple[Sequence[str], int]]) -> Any:
-    """The places of stations between some of which tracks of a length lie."""
+    """The places of stations, some of which are joined by tracks of a length."""
     rows = [[json.dumps(sorted(ends)), length] for ends, length in lengths]
     tracks = f"new Map({json.dumps(rows)}.map(([ends, length]) => [Page.trackOf(...JSON.parse(ends)), length]))"
     return page.ask(f"Object.fromEntries(Page.atOnce(Page.layOut({json.dumps(stations)}, {tracks})))")
@@ -85,7 +85,7 @@ def names_apart(suite: Suite, page: Hands) -> None:
 
 @within(120)
 def room(suite: Suite, page: Hands) -> None:
-    """On the netgraph of a region stations keep clear of each other, and each line is known with its stations in order."""
+    """On the netgraph of a region stations are apart from each other, and each line is known with its stations in order."""
     for seed in range(1, 9):
         page.show(texts_of(draw_region(seed)))
         page.ask("Page.showTab('netgraph')")
@@ -112,7 +112,8 @@ def labelled(page: Hands, labels: Sequence[Sequence[str]], steps: Sequence[Tuple
 
 
 def trains(suite: Suite, page: Hands) -> None:
-    """A train is a chain of runs and dwells, which may be a ring; lines are in the order of their names, in which numbers count."""
+    """A train is a chain of runs and dwells, which may be circular; lines are in the order of their names, with numbers in numeric
+    order."""
     stations = "XYYZZX"
     labelled(page, [("C", "", stations[place], ("departure", "arrival")[place % 2]) for place in range(6)], [(place, place % 6 + 1, "") for place in range(1, 7)])
     came = page.ask("Page.view.lines.map(line => [line.stations, line.trains.map(train => train.events)])")
@@ -132,7 +133,7 @@ def axes(suite: Suite, page: Hands) -> None:
 
 
 def minutes_told(suite: Suite, page: Hands) -> None:
-    """Runs of minutes, and bare ones of tables, are told with the hour above an hour."""
+    """Runs of minutes, and bare ones of tables, are written with the hour above an hour."""
     for period, runs, bare in [(60, ":00–:01, :05", ["07", "59"]), (120, "0:00–0:01, 0:05", ["0:07", "0:59"])]:
         page.show({"activities": "1; 1; 2; 3; 5; 2\n", "period": f"{period}\n"})
         came = page.ask(f"({{ runs: Page.domainText([0, 1, 5], {period}), bare: [7, 59].map(Page.bareClock) }})")

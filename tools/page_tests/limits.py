@@ -1,4 +1,4 @@
-"""The page at the limits of the program, with files that exist: each answer is quick, told, and exact."""
+"""The page at the limits of the program, with existing files: each answer is quick, shown, and exact."""
 
 import pathlib
 import re
@@ -13,10 +13,10 @@ from page_tests.untouched import placed
 from tests.harness import Suite, within
 
 LONGEST = 67_108_864
-# What the page may take to draw, on a machine on which other tests run too.
+# The greatest time to draw, on a machine on which other tests run too.
 SECONDS = 60
 OPENED = "Page.find('opening').open || Page.find('said').textContent.startsWith('opened')"
-# The times that the program has, each as the tension of an activity from an event at 0, and those that are shown.
+# The program's times, each as the tension of an activity from an event at 0, and those shown.
 TIMES_TOLD = """(() => {
     const { base, lines } = Page.present(), { period, events } = Page.view.network, times = [];
     const ask = more => Page.run(base, [...lines, ...more]).pop();
@@ -31,7 +31,7 @@ TIMES_TOLD = """(() => {
 
 
 def at_the_limits(suite: Suite, page: Hands) -> None:
-    """At period 1,440, with as many events and activities as may be, times are opened, set, adopted and taken back."""
+    """At period 1,440, with the greatest numbers of events and activities, times are opened, set, adopted and undone."""
     events, count = 1_666, 8_333
     rows = ((number, number % events + 1, (number + 1 + number // events) % events + 1) for number in range(count))
     texts = {
@@ -57,7 +57,7 @@ def at_the_limits(suite: Suite, page: Hands) -> None:
 
 
 def followed(suite: Suite, page: Hands) -> None:
-    """Times that are followed are those that the program has, which the tension from a clock at 0 tells."""
+    """The tracked times are the program's, as the tension from a clock at 0 shows."""
     page.again()
     page.show({**TWO_TRAINS, "events": "7\n8\n", "times": "event; time\n+1; -3\n2; 0017\n7; 25\n9; 3\n"})
     suite.note("a file of times", {"program": [[1, 7], [2, 7], [7, 5]]}, {"program": page.ask(TIMES_TOLD)[0]})
@@ -69,7 +69,7 @@ def followed(suite: Suite, page: Hands) -> None:
 
 @within(240)
 def long_files(suite: Suite, page: Hands) -> None:
-    """A file has as many bytes as the program reads, in an archive too; one more is told, and no more is unpacked."""
+    """A file has as many bytes as the program reads, also in an archive; one more is reported, and no more is unpacked."""
     row, told = b"1; 1; 2; 3; 5; 2\n", f"activities file is too long: it has more than {LONGEST:,} bytes"
     with tempfile.TemporaryDirectory() as name:
         folder = pathlib.Path(name)
@@ -101,7 +101,7 @@ def long_files(suite: Suite, page: Hands) -> None:
 
 
 def lines_of(count: int, stations: int, is_shared: bool = False) -> Dict[str, str]:
-    """A network of so many lines, each between stations of its own or all between the same, with labels and times."""
+    """A network with this many lines, each between stations of its own or all between the same, with labels and times."""
     events: List[str] = []
     activities: List[str] = []
     kinds: List[str] = []
@@ -119,7 +119,7 @@ def lines_of(count: int, stations: int, is_shared: bool = False) -> Dict[str, st
 
 
 def drawn_in_time(suite: Suite, page: Hands, name: str, tab: str, wanted: str) -> None:
-    """A view of what is open is drawn soon, with a word that says that it is elided."""
+    """A view of the open network is drawn soon, with a remark on what is left out."""
     began = time.monotonic()
     page.press(f"tab-{tab}")
     page.drawn()
@@ -130,7 +130,7 @@ def drawn_in_time(suite: Suite, page: Hands, name: str, tab: str, wanted: str) -
 
 @within(300)
 def elided(suite: Suite, page: Hands) -> None:
-    """Networks that are too large to draw are drawn in part, soon, with a word that says so."""
+    """Networks that are too large to draw are drawn in part, soon, with a remark on that."""
     for lines, stations, tab, wanted in [
         (1, 349, "netgraph", ""),
         (50, 7, "netgraph", "Elided: of 350 stations the 120 nearest to S0 are shown."),
@@ -162,7 +162,7 @@ def elided(suite: Suite, page: Hands) -> None:
 
 @within(300)
 def many_lines_drawn(suite: Suite, page: Hands) -> None:
-    """A diagram and a corridor of 50 lines draw a part of their runs and stations, with a word that says so."""
+    """A diagram and a corridor of 50 lines draw a part of their runs and stations, with a remark on that."""
     for stations, is_shared, tab, wanted in [
         (80, False, "diagram", ""),
         (190, True, "diagram", "Elided: of 9,261 runs of other lines the first 2,000 are shown."),
@@ -179,7 +179,7 @@ def many_lines_drawn(suite: Suite, page: Hands) -> None:
 
 
 def exact(suite: Suite, page: Hands) -> None:
-    """A cost beyond what a number of a script tells exactly is shown as it is, in its digits."""
+    """A cost beyond the exact numbers of JavaScript is shown in all its digits."""
     weights = [1_000_000_000 - (number <= 3_750) for number in range(7_500)]
     many = "".join(
         f"{number}; {number % 50}; {50 + number // 50 % 50}; 0; 1439; {weight}\n"
@@ -197,7 +197,7 @@ def exact(suite: Suite, page: Hands) -> None:
     suite.note("a cost", {"shown": cost, "printed": True}, came)
 
 
-# What is drawn and told anywhere, as its markup.
+# Everything drawn and shown, as markup.
 MARKUP = "document.body.innerHTML.replace(/<script[^]*?<[/]script>/g, '')"
 UNKNOWN = re.compile(r"NaN|Infinity|undefined|[0-9]e[+][0-9]")
 FAR = [
@@ -209,7 +209,7 @@ FAR = [
 
 
 def far_places(suite: Suite, page: Hands) -> None:
-    """Places beyond any map are drawn, on the screen and on paper, and saved as they are."""
+    """Places beyond any map are drawn, on the screen and on paper, and saved unchanged."""
     texts = lines_of(1, 3)
     for name, places in FAR:
         rows = "".join(f"S{place}; {x}; {y}\n" for place, (x, y) in enumerate(places))
@@ -228,7 +228,7 @@ def far_places(suite: Suite, page: Hands) -> None:
 
 
 def great_costs(suite: Suite, page: Hands) -> None:
-    """Costs beyond 2 to the 53rd are told in all their digits: as a step changes them, beside each other, found, and in a report."""
+    """Costs beyond 2 to the 53rd are shown in all their digits: their change by a step, compared, found, and in a report."""
     count, weight = 6_400, 999_999_999
     rows = "".join(f"{number}; 1; 2; 0; 1439; {weight}\n" for number in range(count))
     page.again()

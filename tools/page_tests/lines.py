@@ -1,4 +1,4 @@
-"""Trains and lines as things: a new network, departures, trains an hour, what is done with a line, and events without a time."""
+"""Operations on trains and lines: a new network, departures, trains an hour, changes of a line, and events without a time."""
 
 from typing import Any, Dict, List
 
@@ -24,7 +24,7 @@ BARS = "[...document.querySelectorAll('.row.bar h3')].map(each => each.textConte
 
 
 def trains(page: Hands, line: str) -> Any:
-    """Of each train of a line its destination, and its stations with the minutes there."""
+    """For each train of a line its destination, and its stations with the minutes there."""
     return page.ask(
         f"""(Page.view.lines.find(each => each.name === '{line}') || {{ trains: [] }}).trains.map(({{ to, events }}) =>
         [to, ...events.map(event => `${{Page.labelOf(event).station}} ${{Page.view.times.get(event) ?? '-'}}`)].join(', '))"""
@@ -32,7 +32,7 @@ def trains(page: Hands, line: str) -> Any:
 
 
 def fill_line(page: Hands, name: str, rows: List[Dict[str, str]], **fields: str) -> None:
-    """Types the dialog of a line and sends it."""
+    """Fills in the dialog of a line and submits it."""
     page.fill("#line-name", name)
     for field, text in fields.items():
         page.fill(f"#line-{field}", text)
@@ -47,7 +47,7 @@ STOPS = [{"station": "A", "run": "5 to 7"}, {"station": "B", "dwell": "2", "run"
 
 
 def altered(page: Hands, line: str, form: str, **fields: str) -> str:
-    """Opens the dialog of a line, types in one of its forms and sends it; what is told there, '' where it is closed."""
+    """Opens the dialog of a line, fills in one of its forms and submits it; returns its message, '' if it is closed."""
     page.press("tab-tables")
     page.click(*page.middle(f'[data-alter="{line}"]'))
     page.frame()
@@ -66,14 +66,14 @@ def altered(page: Hands, line: str, form: str, **fields: str) -> str:
 
 
 def undone(suite: Suite, page: Hands, state: str) -> None:
-    """One undo takes back network, times and names."""
+    """One undo reverts network, times and names."""
     page.key("z", 90, CTRL)
     page.frame()
     suite.note("undone as one", {"state": True, "saved": True}, {"state": page.state() == state, "saved": page.ask("Page.isSaved()")})
 
 
 def new_network(suite: Suite, page: Hands) -> None:
-    """A new network begins with nothing by a button, and its first line is typed at once, with departures and trains an hour."""
+    """A new network starts empty by a button, and its first line is typed at once, with departures and trains an hour."""
     page.again()
     page.drag([page.minute(1, 20), page.minute(1, 30)])
     page.press("new")
@@ -107,7 +107,7 @@ def new_network(suite: Suite, page: Hands) -> None:
 
 
 def departure(suite: Suite, page: Hands) -> None:
-    """A train gets a departure, from which its times follow by its least minutes, and so do those of trains that are tied to it."""
+    """A train gets a departure, from which its times follow by its least minutes, and so do those of tied trains."""
     page.show({**NETWORK, "times": ""})
     state = page.state()
     page.click(*page.middle('[data-row="3"] .name'))
@@ -138,7 +138,7 @@ def departure(suite: Suite, page: Hands) -> None:
 
 
 def line_altered(suite: Suite, page: Hands) -> None:
-    """A line is renamed, copied, given a stop and dropped, with network and names in one step each, which one undo takes back."""
+    """A line is renamed, copied, given a stop and dropped, with network and names in one step each, which one undo reverts."""
     page.show(NETWORK)
     state, labels = page.state(), page.ask("[...Page.labels.events]")
     suite.note("renamed", {"told": ""}, {"told": altered(page, "M", "rename-line", altered_name="N")})
@@ -174,7 +174,7 @@ def line_altered(suite: Suite, page: Hands) -> None:
 
 
 def stop_beyond(suite: Suite, page: Hands) -> None:
-    """A line is given a stop beyond either end: its trains go there, come from there, and turn there; equal ones are tied there too."""
+    """A line gets a stop beyond either end: its trains go there, come from there, and turn there; equal ones are tied there too."""
     page.show(NETWORK)
     state, stop = page.state(), {"stop_station": "D", "stop_before": "4 to 5", "stop_dwell": "2"}
     turn = "(({ first, last }) => [first, last].map(event => Page.eventName(event)))(Page.view.network.activities.get(7))"
@@ -198,7 +198,7 @@ def stop_beyond(suite: Suite, page: Hands) -> None:
 
 
 def hourly(suite: Suite, page: Hands) -> None:
-    """Trains an hour are a number: further trains are equal and tied, and those that are there stay."""
+    """Trains an hour are a number: additional trains are equal and tied, and existing ones stay."""
     page.show(NETWORK)
     state = page.state()
     suite.note("two", {"told": ""}, {"told": altered(page, "M", "hourly-line", hourly="2")})
@@ -227,7 +227,7 @@ def hourly(suite: Suite, page: Hands) -> None:
 
 
 def event_without_time(suite: Suite, page: Hands) -> None:
-    """An event without a time blanks nothing but what needs it."""
+    """An event without a time hides only what needs it."""
     page.show(NETWORK)
     ways = "[...document.querySelectorAll('#diagram path.reach')].map(each => `${each.dataset.event} ${each.dataset.next}`)"
     page.press("tab-diagram")
@@ -252,7 +252,7 @@ def event_without_time(suite: Suite, page: Hands) -> None:
 
 
 def cost_called(suite: Suite, page: Hands) -> None:
-    """What cost is called is a label of the network, which is a step, saved and opened again, and by the Python package."""
+    """The name of the cost is a label of the network, which is a step, saved and opened again, also by the Python package."""
     page.show(NETWORK)
     name = "#figure-cost span"
     page.press("tab-tables")

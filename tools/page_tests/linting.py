@@ -1,4 +1,4 @@
-"""The sources of the page: types, lint, and what its modules share; and those of the tools about it. What is not installed is told."""
+"""The sources of the page: types, lint, and what its modules share; and those of its tools. Missing checkers are reported."""
 
 import os
 import re
@@ -12,23 +12,23 @@ from paging.modules import below, scripts
 from tests.harness import TOP, Suite, within
 
 SCRIPTS = TOP / "page/script"
-# Debian's modules, which another Node does not look for.
+# Debian's modules, which other versions of Node do not search.
 MODULES = "/usr/share/nodejs"
 CHECKED = ["--noUnusedLocals", "--noUnusedParameters", "--noImplicitReturns", "--noImplicitThis", "--noFallthroughCasesInSwitch"]
 CHECKED += ["--strictBindCallApply", "--strictFunctionTypes"]
-# The modules that lay out what others draw, and the most lines of all of them.
+# The modules that lay out drawings of others, and the most lines of all of them.
 LAYING_OUT, MOST_DRAWING = ("captions", "places", "report", "routes", "spreading", "stretch", "tracks"), 2_000
-# The folders of modules, each above those before it; the last are the modules that are in none.
+# The folders of modules, each above those before it; the last are the modules outside of any.
 ORDER = ["base", "session", "forms", "draw", "search", "files", "script"]
-# A text that is an edit with its numbers, or that is put before them.
+# A text that is an edit with its numbers, or precedes them.
 EDIT = re.compile(r"""[`'"](?:(?:(?:add|drop) (?:event|activity)|span|weight|ends|fix|window|unfix|time|untime)(?: (?:\$\{[^}`]*\}|\d+))+ ?|(?:add|drop) (?:event|activity) )[`'"]""")
-# What is given to callers outside, in outside.js: `get name() ..`, `name: ..` and `name`.
+# The members of the interface in outside.js: `get name() ..`, `name: ..` and `name`.
 GIVEN = re.compile(r"window\.Page = Object\.freeze\(\{(.*)\}\);", re.S)
 MEMBER = re.compile(r"\bget (\w+)\(\)|(\w+): \w+,|(?<!: )\b(\w+),(?!\})")
 
 
 def told_by(suite: Suite, what: str, command: Sequence[object], **how: Any) -> None:
-    """Runs a checker, which tells nothing where all is right; False where it is not installed."""
+    """Runs a checker, which prints nothing if all is right; False if it is not installed."""
     if not shutil.which(str(command[0])):
         print(f"  nothing was tried of {what}: {command[0]} is not installed")
         return
@@ -53,7 +53,7 @@ def lint_of_scripts(suite: Suite, page: Hands) -> None:
 
 
 def what_scripts_share(suite: Suite, page: Hands) -> None:
-    """Each export is imported by some module, each module is one of the page's, and all that is given to callers outside is used there."""
+    """Each export is imported by some module, each module is part of the page, and each member of the interface is used outside."""
     found, texts = scripts(SCRIPTS), {path.stem: path.read_text() for path in SCRIPTS.rglob("*.js")}
     taken = {name for script in found.values() for names in script.imports.values() for name in names}
     suite.note("exported, and not imported", {"they": []}, {"they": sorted({name for script in found.values() for name in script.exports} - taken)})
@@ -70,7 +70,8 @@ def what_scripts_share(suite: Suite, page: Hands) -> None:
 
 
 def folders(suite: Suite, page: Hands) -> None:
-    """A module imports from its own folder and from those before it alone, and each folder has a short page that names its modules."""
+    """A module imports only from its own folder and from those before it, and each folder has a short page that names its modules.
+    """
     found, place = scripts(SCRIPTS), {path.stem: ORDER.index(path.parent.name) for path in SCRIPTS.rglob("*.js")}
     against = [f"{name} imports {each}" for name, script in found.items() for each in script.imports if place[each] > place[name]]
     suite.note("imports against the order of folders", {"they": []}, {"they": against})
@@ -82,7 +83,7 @@ def folders(suite: Suite, page: Hands) -> None:
 
 
 def words_of_edits(suite: Suite, page: Hands) -> None:
-    """Edits are made by one module, which alone has their words."""
+    """Only one module creates edits and has their words."""
     found = {path.stem: len(EDIT.findall(path.read_text())) for path in SCRIPTS.rglob("*.js")}
     suite.note("modules that write an edit", {"they": {}}, {"they": {name: count for name, count in found.items() if count}})
     texts = ["`fix ${event} 3`", "'add event '", '"time 3 4"', "['span 1 2 3']", "`add activity ${number} ${words.join(' ')} `"]
@@ -97,7 +98,7 @@ def names_say_what(suite: Suite, page: Hands) -> None:
 
 
 def drawn_once(suite: Suite, page: Hands) -> None:
-    """The modules that draw, those that lay out for them, and the package's own for a report, which asks them, have few lines together."""
+    """The drawing modules, those that lay out for them, and the package's own for a report have few lines together."""
     found = scripts(SCRIPTS)
     drawing = [name for name, script in found.items() if "drawing" in script.imports.get("elements", ()) and name != "outside"]
     paths = [*(path for path in SCRIPTS.rglob("*.js") if path.stem in {*drawing, *LAYING_OUT}), *(TOP / "python/pespbench/report").glob("drawing.*")]
@@ -107,7 +108,7 @@ def drawn_once(suite: Suite, page: Hands) -> None:
 
 @within(120)
 def tools_of_page(suite: Suite, page: Hands) -> None:
-    """What makes the page passes a type checker, and that with its tests and the report a checker of names."""
+    """The page's build passes a type checker, and with its tests and the report a checker of names."""
     told_by(suite, "names in tools", ["pyflakes3", *(TOP / "tools" / name for name in ("page", "test_page", "measure_page", "paging", "page_tests")), TOP / "python/pespbench/report"])
     if shutil.which("mypy"):
         words = ["mypy", "--strict", "--python-version", "3.9", "--cache-dir", suite.folder / "types", "paging"]

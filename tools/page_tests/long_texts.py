@@ -1,4 +1,4 @@
-"""Long texts of strangers, each of which the page reads in proportion to its length, in files and in links."""
+"""Long texts of strangers, each of which the page reads in time proportional to its length, in files and in links."""
 
 import json
 import pathlib
@@ -15,9 +15,9 @@ from tests.harness import TOP, Suite, within
 
 SCRIPTS = TOP / "page/script"
 READERS = pathlib.Path(__file__).with_name("readers.mjs")
-# A pattern as the scripts write it: never after a blank and before one, as a division is.
+# A pattern as the scripts write it: never between blanks, like a division.
 PATTERN = re.compile(r"(?<=[\s(=,:?&|!\[])/(?![/*\s])((?:\\.|\[(?:\\.|[^\]\\\n])*\]|[^/\\\n\[])+)/([dgimsuy]*)(?=[\s.,;)\]])")
-# A fragment may have so many letters, and unpack to so many bytes.
+# The limits of a fragment, in letters and in unpacked bytes.
 MOST_LETTERS, MOST_BYTES = 30_000, 4_000_000
 LENGTH = MOST_BYTES - 1_000
 ANSWERED = "Page.find('opening').open || Page.find('said').textContent !== ''"
@@ -35,7 +35,7 @@ def told_by_node(suite: Suite, folder: str, *words: str) -> List[str]:
 
 @within(300)
 def readers_of_long_texts(suite: Suite, page: Hands) -> None:
-    """Each reader answers to 4 MB within a second of a processor, and in proportion to the length."""
+    """Each reader handles 4 MB within a processor second, and in proportion to the length."""
     if not shutil.which("node"):
         print("  nothing was tried of readers: node is not installed")
         return
@@ -69,7 +69,7 @@ def patterns_in_one_pass(suite: Suite, page: Hands) -> None:
 
 
 def processor_time(page: Hands) -> float:
-    """The seconds of a processor that the page has taken."""
+    """The page's processor seconds."""
     metrics = {each["name"]: each["value"] for each in page.call("Performance.getMetrics")["metrics"]}
     return float(metrics["TaskDuration"])
 
@@ -95,7 +95,7 @@ LINKS = {
 
 @within(300)
 def long_links(suite: Suite, page: Hands) -> None:
-    """A link of few letters that unpacks to 4 MB is answered within seconds, whatever it repeats, and the page goes on."""
+    """A short link that unpacks to 4 MB is answered within seconds, whatever it repeats, and the page continues."""
     page.call("Performance.enable", timeDomain="threadTicks")
     for name, files in LINKS.items():
         link = fragment(json.dumps({f"a/{kind}": text for kind, text in {**TWO, **files}.items()}).encode())

@@ -7,7 +7,7 @@ from page_tests.whole import LOOK
 from page_tests.words import TABS
 from tests.harness import Suite, within
 
-# Texts that have too little contrast with what lies below them, 4.5 to 1, by the colors that a browser computes.
+# Texts with too little contrast to their background, below 4.5 to 1, by the colors that a browser computes.
 PALE = """(() => {
     const canvas = document.createElement('canvas').getContext('2d', { willReadFrequently: true });
     const rgb = color => {
@@ -53,7 +53,7 @@ WIDE = [("Regionalexpress Oberland–Unterland", LONG, [(OLD, 0), (LONG, 10), (L
 
 @within(240)
 def sizes(suite: Suite, page: Hands) -> None:
-    """With long names, at 390 points and at 200 per cent, nothing is wider than the page, no text is cut, and a row says all it has to."""
+    """With long names, at 390 points and at 200 per cent, nothing is wider than the page, no text is cut, and a row is complete."""
     for width, height, scale in [(1360, 850, 1), (800, 1000, 1), (390, 800, 1), (390, 800, 2), (680, 425, 2)]:
         page.resize(width, height, scale)
         for name, texts in [("long names", texts_of([*WIDE, *TRAINS], [(1, 5, 3, 57)])), ("short ones", texts_of(TRAINS, []))]:
@@ -78,7 +78,7 @@ def sizes(suite: Suite, page: Hands) -> None:
 
 
 def colors(suite: Suite, page: Hands) -> None:
-    """Light and dark, each text can be read on what lies below it; paper is light."""
+    """Light and dark, each text is readable on its background; paper is light."""
     for scheme in ("light", "dark"):
         page.call("Emulation.setEmulatedMedia", features=[{"name": "prefers-color-scheme", "value": scheme}])
         page.again()

@@ -1,4 +1,4 @@
-"""What is violated is mended by the nearest timetable, which is shown above the present one, and is taken or left."""
+"""Violations are mended by the nearest timetable, which is shown above the present one, and is accepted or rejected."""
 
 import itertools
 import random
@@ -30,7 +30,8 @@ def moved(page: Hands, minutes: float = 3, train: int = 21) -> None:
 
 
 def mended(suite: Suite, page: Hands) -> None:
-    """A train is moved; the nearest timetable is proposed above what is shown, told in trains and minutes, and taken by a click."""
+    """A train is moved; the nearest timetable is proposed above the present one, described in trains and minutes, and accepted by a
+    click."""
     moved(page)
     before = page.ask(TIMES)
     suite.note("violated", {"count": 1, "mend": True}, {"count": page.ask(VIOLATED), "mend": page.is_shown("mend")})
@@ -57,7 +58,7 @@ def mended(suite: Suite, page: Hands) -> None:
 
 
 def mended_by_keys(suite: Suite, page: Hands) -> None:
-    """M mends, Enter takes; from the list of what is violated it is mended too, and what is left changes nothing."""
+    """M mends, Enter accepts; the list of violations mends too, and a rejected proposal changes nothing."""
     moved(page)
     before = page.state()
     page.key("m", 77)
@@ -87,7 +88,8 @@ Rows = List[Tuple[int, int, int, int, int, int]]
 
 
 def least_moves(rows: Rows, times: Dict[int, int], held: int, period: int) -> Tuple[int, int]:
-    """The fewest minutes of moves to a timetable that meets all, and its least cost, by all timetables; (-1, -1) where there is none."""
+    """The fewest minutes of moves to a timetable that meets everything, and its least cost, by enumeration; (-1, -1) if there is
+    none."""
     others, best = [event for event in times if event != held], (-1, -1)
     for minutes in itertools.product(range(period), repeat=len(others)):
         at = {held: times[held], **dict(zip(others, minutes))}
@@ -101,7 +103,7 @@ def least_moves(rows: Rows, times: Dict[int, int], held: int, period: int) -> Tu
 
 @within(120)
 def nearest_of_all(suite: Suite, page: Hands) -> None:
-    """In small networks no timetable is nearer, and of those as near none is cheaper, by all there are."""
+    """In small networks no timetable is nearer, and of equally near ones none is cheaper, by enumeration."""
     draw, period, none, tried = random.Random(83), 12, 0, 0
     for _ in range(24):
         count = draw.choice([3, 4])
@@ -135,7 +137,7 @@ def nearest_of_all(suite: Suite, page: Hands) -> None:
 
 
 def not_mended(suite: Suite, page: Hands) -> None:
-    """Where there is none within what others may move, that is told, and why is asked with what was moved held."""
+    """If there is none within the permitted moves, the page says so, and asks why with the moved events held."""
     moved(page, 12)
     page.ask("Page.find('most-moved').focus()")
     page.type("2")
@@ -163,7 +165,7 @@ def not_mended(suite: Suite, page: Hands) -> None:
 
 
 def trains_that_stay(suite: Suite, page: Hands) -> None:
-    """A train that is to stay is not moved to mend another one."""
+    """A train that must stay is not moved to mend another one."""
     moved(page)
     page.ask("Page.showRow(31)")
     page.frame()

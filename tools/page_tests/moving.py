@@ -49,7 +49,7 @@ def bar(page: Hands, event: int = 1) -> Tuple[float, float, float]:
 
 
 def piece(page: Hands, event: int, part: float = 0.5, view: str = "diagram") -> Tuple[float, float, float]:
-    """A place on the way of a train in a diagram, after an event, and the pixels of a minute there."""
+    """A place on the path of a train in a diagram, after an event, and the pixels of a minute there."""
     page.box(f"#{view} svg")
     x, y = page.ask(
         f"""(() => {{
@@ -62,7 +62,7 @@ def piece(page: Hands, event: int, part: float = 0.5, view: str = "diagram") -> 
 
 
 def figures(page: Hands) -> List[str]:
-    """What is shown of cost and violations, with their changes."""
+    """The shown cost and violations, with their changes."""
     return [page.text(f"#figure-{name} {part}") for name in ("cost", "violations") for part in ("b", "small")]
 
 
@@ -97,7 +97,7 @@ def bars(suite: Suite, page: Hands) -> None:
 
 
 def ways(suite: Suite, page: Hands) -> None:
-    """A train is dragged by its way in the diagram; with Shift, or the box, a run from its departure on, a dwell from its end."""
+    """A train is dragged by its path in the diagram; with Shift, or the box, a run from its departure on, a dwell from its end."""
     begun(page)
     state = page.state()
     for name, event, modifiers, minutes, lines in [
@@ -183,7 +183,7 @@ def by_taps(suite: Suite, page: Hands) -> None:
         moved = abs(page.ask("Page.find('events').scrollTop") - before)
         came = {"lines": page.lines(), "chosen": page.ask("Page.chosen")}
         suite.note(f"{name}: scrolled", {"lines": [], "chosen": 1}, came)
-        # The picture is all on the screen.
+        # The whole picture is on the screen.
         suite.holds(f"{name} scrolls by {moved}", moved > 50 or name == "a way")
     touch(page, is_on=False)
     page.resize(1440, 900)
@@ -249,7 +249,7 @@ def by_fields(suite: Suite, page: Hands) -> None:
 
 
 def held(suite: Suite, page: Hands) -> None:
-    """An event that would leave its window or fixed time goes on, and it is told in its row, on the bar and in the diagram."""
+    """An event that would leave its window or fixed time moves on, and its row, the bar and the diagram show that."""
     for line, told in [("fix 3 12", "not at :12"), ("window 3 10 3", "not from :10 to :12")]:
         begun(page)
         page.ask(f"Page.step(['{line}'])")
@@ -272,7 +272,7 @@ def held(suite: Suite, page: Hands) -> None:
 
 
 def lacking(suite: Suite, page: Hands) -> None:
-    """Events without a time are left, and where nothing can be moved it is told."""
+    """Events without a time are skipped, and if nothing can be moved the page says so."""
     begun(page, times="1; 0\n2; 10\n3; 12\n")
     page.ask("Page.find('diagram').focus()")
     page.key("ArrowRight", CODES["ArrowRight"])

@@ -11,7 +11,7 @@ from pespbench import Labels
 from tests.harness import TOP, Suite
 
 EXAMPLES = TOP / "examples"
-# What would act on the page if it were taken as markup or as a script.
+# Texts that would act on the page as markup or as a script.
 HOSTILE = (
     '<img src=x onerror="hostile=1"><script>hostile=1</script>"\'><svg onload=hostile=1>&amp;${hostile=1}`</style>'
 )
@@ -42,7 +42,7 @@ def forget(page: Hands) -> None:
 
 
 def dropping(suite: Suite, page: Hands) -> None:
-    """Files that are dropped are opened at once where their names and the period tell all, and else after a look."""
+    """Dropped files are opened at once if their names and the period determine all, and otherwise after a question."""
     page.show(TWO_TRAINS)
     forget(page)
     folder = EXAMPLES / "two-changes"
@@ -104,7 +104,7 @@ def dropping(suite: Suite, page: Hands) -> None:
 
 
 def refused(suite: Suite, page: Hands) -> None:
-    """A file that cannot be read is refused with the program's text, and what was shown stays."""
+    """An unreadable file is refused with the program's text, and the present state stays."""
     page.show(TWO_TRAINS)
     state = page.state()
     cases: List[Tuple[str, Dict[str, Union[bytes, str]], str]] = [
@@ -173,7 +173,7 @@ def refused(suite: Suite, page: Hands) -> None:
 
 
 def hostile(suite: Suite, page: Hands) -> None:
-    """Names that look like markup, scripts or styles stay texts, wherever they are drawn."""
+    """Names that look like markup, scripts or styles remain texts, wherever they are drawn."""
     label = '"' + HOSTILE.replace('"', '""') + '"'
     labels = "event; line; to; station; kind\n" + "".join(
         f"{event};{label};{label};{station}{label[1:]};{kind}\n"

@@ -1,4 +1,4 @@
-"""The picture first: what it has of the screen, zoomed by the wheel, keys, fingers and buttons, two periods, and the whole screen."""
+"""The picture first: its share of the screen, zoomed by the wheel, keys, fingers and buttons, two periods, and the whole screen."""
 
 from typing import List, Sequence, Tuple
 
@@ -20,7 +20,7 @@ MARKS = "[...document.querySelectorAll('#VIEW text.axis')].map(each => each.text
 
 
 def wheel(page: Hands, place: Place, down: float, modifiers: int = 0) -> None:
-    """The wheel is turned over a place."""
+    """Turns the wheel over a place."""
     page.call("Input.dispatchMouseEvent", type="mouseWheel", x=place[0], y=place[1], deltaX=0, deltaY=down, modifiers=modifiers)
     page.frame()
     page.frame()
@@ -44,12 +44,12 @@ def over(page: Hands, view: str, part: float = 0.5) -> Place:
 
 
 def told(page: Hands) -> str:
-    """Which minutes are shown, or how large the netgraph is."""
+    """The minutes shown, or the size of the netgraph."""
     return page.text("#zoom-told")
 
 
 def ring(page: Hands) -> List[float]:
-    """Where the ring of the chosen event is, as parts of the minutes shown."""
+    """The place of the chosen event's ring, as a share of the minutes shown."""
     left, width = page.across("diagram")
     places: List[float] = page.ask("[...document.querySelectorAll('#diagram .mark')].map(each => Number(each.getAttribute('cx')))")
     return [round((place - left) / width, 3) for place in places]
@@ -84,7 +84,8 @@ def of_the_screen(suite: Suite, page: Hands) -> None:
 
 
 def by_wheel(suite: Suite, page: Hands) -> None:
-    """The wheel zooms a diagram about the pointer, the strips with Ctrl or above them, and Shift moves what is zoomed; all shows all."""
+    """The wheel zooms a diagram about the pointer, the strips with Ctrl or above them, and Shift moves a zoomed one; all shows all.
+    """
     page.again()
     page.ask("Page.choose(1)")
     place = over(page, "diagram", 0.5)
@@ -114,7 +115,8 @@ def by_wheel(suite: Suite, page: Hands) -> None:
 
 
 def by_keys_and_drags(suite: Suite, page: Hands) -> None:
-    """Keys zoom about the chosen event, on strips with Alt; a drag beside all trains moves, and what is chosen or moved comes into sight."""
+    """Keys zoom about the chosen event, on strips with Alt; a drag beside all trains moves, and a chosen or moved event becomes
+    visible."""
     page.again()
     page.ask("Page.choose(9); Page.find('diagram').focus()")
     for _ in range(4):
@@ -150,7 +152,7 @@ def by_keys_and_drags(suite: Suite, page: Hands) -> None:
 
 
 def by_fingers(suite: Suite, page: Hands) -> None:
-    """Two fingers zoom a diagram, strips and the netgraph, where one drags as before; nothing is changed by them."""
+    """Two fingers zoom a diagram, strips and the netgraph, where one drags as before; they change nothing."""
     page.again()
     page.resize(390, 800)
     page.call("Emulation.setTouchEmulationEnabled", enabled=True, maxTouchPoints=2)
@@ -181,7 +183,7 @@ def by_fingers(suite: Suite, page: Hands) -> None:
 
 
 def of_the_map(suite: Suite, page: Hands) -> None:
-    """The netgraph is zoomed about the pointer and dragged, where a drag clicks nothing; all of a large one comes into sight."""
+    """The netgraph is zoomed about the pointer and dragged, without clicks; all of a large one becomes visible."""
     page.again()
     page.ask("Page.showTab('netgraph')")
     page.frame()
@@ -206,7 +208,7 @@ def of_the_map(suite: Suite, page: Hands) -> None:
 
 
 def two_periods(suite: Suite, page: Hands) -> None:
-    """A diagram shows two periods where that is ticked: all is drawn twice, and a train is moved in either."""
+    """A diagram shows two periods if that is ticked: everything is drawn twice, and a train is moved in either."""
     page.again()
     page.ask("Page.choose(1)")
     page.press("two-periods")

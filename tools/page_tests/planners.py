@@ -1,4 +1,5 @@
-"""What appears while a planner works: trains in words, no command but in Steps, no bare number where there are names, and cost by its name."""
+"""The texts that appear while a planner works: trains in words, no command except in Steps, no bare number where there are names,
+and cost by its name."""
 
 import re
 import tempfile
@@ -9,12 +10,12 @@ from page_tests.keys import CODES, CTRL, SHIFT
 from page_tests.untouched import placed
 from tests.harness import Suite, within
 
-# A line of the program's, and what names an event or an activity by its number alone.
+# A line for the program, and a text that names an event or an activity only by its number.
 COMMAND = re.compile(r"\b(?:(?:fix|time|weight) -?\d+ -?\d+|(?:un(?:fix|time)|(?:add|drop) event|drop activity|try|domain) \d+|(?:window|ends) \d+ \d+ \d+|span \d+ -?\d+ -?\d+|add activity \d+ \d+)\b|\b(?:refused|fault) \d*")
 NUMBER = re.compile(r"\b(?:event|activity) \d+\b")
 AVOIDED = re.compile(r"\b(?:narrowed|cases?|drawn|adopt\w*|spans?)\b", re.I)
 COST = re.compile(r"\bcosts?\b|\bdear(?:er)?\b|\bcheap(?:er)?\b", re.I)
-# All texts that appear, seen or not, but for those of Steps and for what is typed.
+# All texts that appear, visible or not, except those of Steps and typed ones.
 HEARD = """(() => {
     const heard = window.heard = new Set(), NAMES = ['title', 'aria-label', 'aria-valuetext', 'placeholder'];
     const isHere = node => Boolean(node.parentElement) && !(node.nodeType === 1 ? node : node.parentElement).closest('#view-lines, script, style');
@@ -35,7 +36,7 @@ BEST_KNOWN = "!/^$|looked for/.test(Page.find('above').textContent)"
 
 
 def held(page: Hands) -> None:
-    """Holds, widens, moves and lets go; types a time, one beyond the period, and none."""
+    """Holds, widens, moves and releases; types a time, one beyond the period, and none."""
     page.drag([page.minute(1, 20), page.minute(1, 30)])
     page.drag([page.grip(1, "last"), page.minute(1, 36)])
     page.key("ArrowRight", CODES["ArrowRight"])
@@ -49,7 +50,7 @@ def held(page: Hands) -> None:
 
 
 def moved(page: Hands) -> None:
-    """Moves a train by keys, and sees, leaves and takes what mends that; another one cannot be mended."""
+    """Moves a train by keys, and sees, rejects and accepts its mend; another one cannot be mended."""
     page.ask("document.querySelector('[data-way=\"21\"]').focus()")
     for _ in range(3):
         page.key("ArrowRight", CODES["ArrowRight"])
@@ -66,7 +67,7 @@ def moved(page: Hands) -> None:
 
 
 def spans(page: Hands) -> None:
-    """Changes minutes and weight by keys and fields, two of which are none; and asks for what each length and each minute means."""
+    """Changes minutes and weight by keys and fields, two of them invalid; and asks for the price of each length and each minute."""
     page.ask("Page.showRow(4)")
     card = '[data-activity="4"]'
     page.ask(f"document.querySelector('{card} [data-end=upper]').focus()")
@@ -89,7 +90,7 @@ def spans(page: Hands) -> None:
 
 
 def searched(page: Hands) -> None:
-    """Searches, sees and takes over what is found, and looks at all that was found; a network without a timetable is asked why."""
+    """Searches, sees and takes over the result, and looks at all timetables found; asks why a network has none."""
     page.fill("#nodes", "40\n")
     page.until(DONE)
     page.press("optimum")
@@ -111,7 +112,7 @@ def searched(page: Hands) -> None:
 
 
 def followed(page: Hands) -> None:
-    """The best is always looked for, and the rest follows a train, where nothing else is held and where something is."""
+    """The best is always searched for, and the rest follows a train, if nothing else is held and if something is."""
     page.press("tab-diagram")
     page.press("always")
     page.until(BEST_KNOWN)
@@ -123,7 +124,7 @@ def followed(page: Hands) -> None:
 
 
 def compared(page: Hands) -> None:
-    """Keeps two ways that differ in everything, and looks at both."""
+    """Keeps two variants that differ in everything, and looks at both."""
     page.press("keep-A")
     page.ask("Page.step(['span 1 9 22', 'weight 3 77', 'fix 2 5', 'drop activity 100', 'ends 90 5 8', 'time 7 1', 'add event 300', 'time 300 12', 'add activity 300 4 300 3 9 5'])")
     page.press("keep-B")
@@ -193,7 +194,7 @@ ACTS: Sequence[Callable[[Hands], None]] = (held, moved, spans, searched, followe
 
 
 def heard(suite: Suite, page: Hands, acts: Sequence[Callable[[Hands], None]]) -> List[str]:
-    """The texts that appear while something is done."""
+    """The texts that appear during an action."""
     page.ask(HEARD)
     for act in acts:
         act(page)
@@ -211,7 +212,7 @@ def without(suite: Suite, texts: List[str], forms: Sequence[Tuple[str, "re.Patte
 
 @within(300)
 def in_words_of_trains(suite: Suite, page: Hands) -> None:
-    """Messages, lists, faults and help say line, direction, station and minute, and no word that a planner does not say."""
+    """Messages, lists, faults and help name line, direction, station and minute, and use no word that a planner would not use."""
     page.again()
     texts = heard(suite, page, ACTS)
     without(suite, texts, [("commands", COMMAND), ("avoided words", AVOIDED)])
@@ -224,7 +225,7 @@ def in_words_of_trains(suite: Suite, page: Hands) -> None:
 
 @within(300)
 def in_words_of_cost(suite: Suite, page: Hands) -> None:
-    """Where the network gives cost a name, all say that name."""
+    """If the network gives cost a name, everything uses that name."""
     page.again()
     page.press("tab-tables")
     page.fill("#cost-name", "passenger minutes\n")
@@ -238,7 +239,7 @@ def in_words_of_cost(suite: Suite, page: Hands) -> None:
 
 
 def without_names(suite: Suite, page: Hands) -> None:
-    """Without labels events have numbers, and no command is said either."""
+    """Without labels events have numbers, and no command appears either."""
     page.show({"activities": "1; 1; 2; 3; 5; 2\n2; 2; 1; 4; 6; 1\n", "times": "1; 0\n2; 3\n", "period": "10\n"})
     page.ask(HEARD)
     page.drag([page.minute(1, 2), page.minute(1, 4)])

@@ -1,4 +1,4 @@
-"""Why there is no timetable is told the same by the page and by the package, each of which has it once."""
+"""The page and the package, each of which has it once, give the same reason why there is no timetable."""
 
 import random
 import shutil
@@ -11,22 +11,22 @@ from pespbench.why.telling import WHOLE, bounds_text, claim_text, member_name, m
 from pespbench.wording import Names, minutes
 from tests.harness import TOP, Suite, within
 
-# The package asks the page's module by Node.
+# The package uses the page's module under Node.
 PROGRAM = TOP / "tools/pespbench_module"
 CONFLICTS = 30
 KINDS = ("run", "change")
-# What is not to be changed, of each network in turn.
+# The kinds that must not change, for each network in turn.
 KEPT: Sequence[Tuple[str, ...]] = ((), ("run",), (), ("fixed",), ("run", "fixed"))
 # How many activities there are for each event, how often one is held, and how wide spans are in parts of the period: many wide
-# ones, of which more than a circle cannot be met, chains between windows, and what is between these.
+# ones, which conflict in more than a circle, chains between windows, and networks between these.
 FORMS = ((3, 0.3, (0.34, 0.4, 0.5)), (1, 0.6, (0.0, 0.1, 0.2)), (2, 0.3, (0.0, 0.0, 0.1, 0.3, 0.8, 1.0)))
-# Lists of what cannot be met together and of mends, and the sentences between them.
+# Lists of conflicts and repairs, and the sentences between them.
 TOLD = """[...document.querySelectorAll('#reasons > *')].map(each => each.tagName !== 'TABLE' ? each.textContent
     : [...each.rows].map(row => [...row.cells].map(cell => cell.textContent)))"""
 
 
 def drawn(seed: int) -> Network:
-    """A small network, which has no timetable more often than not: beside a chain come circles, parallel activities and loops."""
+    """A small network, which usually has no timetable: beside a chain it has circles, parallel activities and loops."""
     draw = random.Random(seed)
     period, count = draw.choice([5, 10, 12, 60]), draw.randrange(3, 8)
     each, held, parts = FORMS[seed % len(FORMS)]
@@ -43,12 +43,12 @@ def drawn(seed: int) -> Network:
 
 
 def kinds_of(network: Network) -> Dict[int, str]:
-    """Runs and changes by turns."""
+    """Alternating runs and changes."""
     return {number: KINDS[number % 2] for number in network.activities}
 
 
 def by_page(page: Hands, network: Network, kept: Sequence[str], lower: bool) -> Any:
-    """What the page tells."""
+    """The page's answer."""
     rows = "".join(f"{number}; {kind}\n" for number, kind in kinds_of(network).items())
     labels = f"event; line; to; station; kind\nactivity; kind\n{rows}"
     page.show({"lines": "\n".join(network.script()), "labels": labels, "period": str(network.period)})
@@ -60,7 +60,7 @@ def by_page(page: Hands, network: Network, kept: Sequence[str], lower: bool) -> 
 
 
 def by_package(network: Network, kept: Sequence[str], lower: bool) -> Tuple[Any, Any]:
-    """What the package answers, and that as the page tells it."""
+    """The package's answer, also in the page's form."""
     with Bench.from_script("\n".join(network.script()), period=network.period, program=PROGRAM) as bench:
         bench.labels.activities.update(kinds_of(network))
         answer, names = why(bench, kept, lower=lower), Names(bench.labels, network.activities)
@@ -68,7 +68,7 @@ def by_package(network: Network, kept: Sequence[str], lower: bool) -> Tuple[Any,
 
 
 def told(conflict: Conflict, names: Names) -> List[Any]:
-    """A conflict with its mends."""
+    """A conflict with its repairs."""
     count = len(conflict.members)
     rows = [[name, bounds.replace("hard", "not to be changed")] for name, bounds in (member_row(each, conflict, names) for each in ordered(conflict))]
     texts = [shape_text(conflict).strip(), claim_text(conflict, names).strip().replace("nodes", "attempts")]
@@ -83,14 +83,15 @@ def told(conflict: Conflict, names: Names) -> List[Any]:
 
 
 def mend_row(mend: Mend, names: Names) -> List[str]:
-    """One mend."""
+    """One repair."""
     before, after = bounds_text(mend.before).removesuffix(" minutes"), bounds_text(mend.after)
     return [f"{minutes(mend.minutes)} {'less' if mend.is_less else 'more'}", member_name(mend.member, names), f"{after} in place of {before}"]
 
 
 @within(240)
 def told_twice(suite: Suite, page: Hands) -> None:
-    """Of drawn networks both tell the same members in the same order, the same sum along a circle or a way, and the same mends."""
+    """On random networks both return the same members in the same order, the same sum along a circle or a path, and the same
+    repairs."""
     if not shutil.which("node"):
         print("  nothing was tried of what the package tells: node is not installed")
         return

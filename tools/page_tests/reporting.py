@@ -1,4 +1,4 @@
-"""A report, which is this page with what the program said inside: it is read, printed, and worked on."""
+"""A report, which is this page with the program's replies inside: it is read, printed, and edited."""
 
 import base64
 import pathlib
@@ -21,7 +21,7 @@ CONTENT: Dict[str, Any] = {
 
 
 def opened(page: Hands, content: Dict[str, Any]) -> pathlib.Path:
-    """Opens a report in the place of the page, and gives where it is."""
+    """Opens a report instead of the page, and returns its path."""
     folder = tempfile.mkdtemp(prefix="pespbench-report-")
     path = pathlib.Path(folder) / "report.html"
     text = pathlib.Path(page.address.removeprefix("file://")).read_text()
@@ -32,7 +32,7 @@ def opened(page: Hands, content: Dict[str, Any]) -> pathlib.Path:
 
 
 def closed(page: Hands, path: pathlib.Path) -> None:
-    """Leaves the report for the page, and takes it away."""
+    """Returns from the report to the page, and removes the report."""
     page.again()
     page.requests.clear()
     path.unlink()
@@ -40,7 +40,7 @@ def closed(page: Hands, path: pathlib.Path) -> None:
 
 
 def read(suite: Suite, page: Hands) -> None:
-    """A report shows what the program said, with names as texts, and has no hands and asks for nothing."""
+    """A report shows the program's replies, with names as texts, and has no controls and sends no requests."""
     path = opened(page, CONTENT)
     shown = page.text("#printed")
     for wanted in (f"Two {NAME}", "takes, or is", "1 too many", "Activities by kind", "M to Benton arrives at"):
@@ -82,7 +82,7 @@ def worked_on(suite: Suite, page: Hands) -> None:
 
 
 def without_times(suite: Suite, page: Hands) -> None:
-    """Where there is no timetable, that is said above all."""
+    """If there is no timetable, that is the headline."""
     path = opened(page, {**CONTENT, "times": [], "tensions": None, "violations": None, "cost": None, "missing": "event 1 has no time"})
     suite.note("the headline", {"it": "There is no timetable yet."}, {"it": page.text("#printed .headline")})
     suite.holds("what is not known", "events have no time, so nothing is said of slack, cost and violations." in page.text("#printed"))

@@ -1,4 +1,4 @@
-"""Files that are saved, and the stories that the page can begin with."""
+"""Saved files, and the stories that the page can start with."""
 
 import base64
 import io
@@ -17,7 +17,7 @@ from tests.harness import Suite
 
 
 def saving(suite: Suite, page: Hands) -> None:
-    """What is saved reads as the state shown: in the page, by the Python package, and from an archive."""
+    """Saved files read as the state shown: in the page, by the Python package, and from an archive."""
     forget(page)
     page.ask("Page.openStory(Page.stories[0])")
     page.ask(
@@ -101,7 +101,7 @@ def saving(suite: Suite, page: Hands) -> None:
 
 
 def archived(suite: Suite, page: Hands) -> None:
-    """The archive that is saved opens with the network, its times, names and places, in the page and in the package."""
+    """A saved archive opens with the network, its times, names and places, in the page and in the package."""
     page.again()
     page.drag([page.minute(1, 20), page.minute(1, 30)])
     page.drag([page.grip(2, "now"), page.minute(2, 50)])
@@ -139,7 +139,7 @@ def archived(suite: Suite, page: Hands) -> None:
 
 
 def stories(suite: Suite, page: Hands) -> None:
-    """The stories in the page are the examples', and the region that the package draws."""
+    """The stories in the page are the examples', and the region that the package generates."""
     kept = {story["title"]: story["texts"] for story in page.ask("Page.stories")}
     two, night, region = (
         kept["Two changes at Benton"],

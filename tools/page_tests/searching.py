@@ -21,7 +21,7 @@ def network(events: int, count: int) -> Dict[str, str]:
 
 
 def long_search() -> Dict[str, str]:
-    """Files of a network of 200 events and 600 activities: no search of it ends, however quick the machine is."""
+    """Files of a network of 200 events and 600 activities: no search of it ends, however fast the machine is."""
     return network(200, 600)
 
 
@@ -31,7 +31,7 @@ def soon_found() -> Dict[str, str]:
 
 
 def optima(suite: Suite, page: Hands) -> None:
-    """What is found is the program's, and is adopted by one click and taken back by one."""
+    """The result is the program's, and is adopted by one click and undone by one."""
     page.show({**TWO_TRAINS, "times": ""})
     page.press("optimum")
     page.until(DONE)
@@ -63,7 +63,7 @@ def optima(suite: Suite, page: Hands) -> None:
 
 
 def stopped(suite: Suite, page: Hands) -> None:
-    """A long search leaves the page usable, and is stopped by a click; what it found is adopted. A step ends it too."""
+    """A long search leaves the page usable, and is stopped by a click; its result is adopted. A step ends it too."""
     page.show(soon_found())
     page.press("optimum")
     page.until("!Page.find('stop').hidden && /^Cost/.test(Page.find('found').textContent)")
@@ -106,7 +106,8 @@ def stopped(suite: Suite, page: Hands) -> None:
 
 
 def beside_edits(suite: Suite, page: Hands) -> None:
-    """What was found stands while times are moved, goes with an edit of the network, and is back after Undo; a search goes on beside times."""
+    """The result remains while times are moved, disappears with an edit of the network, and returns after Undo; a search continues
+    beside times."""
     page.show(TWO_TRAINS)
     page.press("optimum")
     page.until(DONE)
@@ -135,7 +136,7 @@ def beside_edits(suite: Suite, page: Hands) -> None:
 
 
 def reasons(suite: Suite, page: Hands) -> None:
-    """Why there is no timetable is what the Python package tells, and a mend is done by one click."""
+    """The reason why there is no timetable is the Python package's, and one click makes a repair."""
     page.ask("Page.openStory(Page.stories[1])")
     page.press("ask-why")
     page.until(DONE)
@@ -206,7 +207,7 @@ def reasons(suite: Suite, page: Hands) -> None:
 
 
 def turned_as_shown(suite: Suite, page: Hands) -> None:
-    """A timetable that was found is turned to agree with the one shown, where nothing is held, and not else."""
+    """A timetable that was found is shifted to agree with the one shown, only if nothing is held."""
     page.again()
     page.press("optimum")
     page.until(DONE)

@@ -1,4 +1,4 @@
-"""What a timetable would move is drawn before it is taken: one that was found, from the list of them too, and a variant."""
+"""The moves of a timetable are drawn before it is accepted: of one that was found, also from the list, and of a variant."""
 
 from typing import Dict, List
 
@@ -17,7 +17,7 @@ LISTED = "[...document.querySelectorAll('#offered li')].map(each => each.firstCh
 
 
 def drawn_over(suite: Suite, page: Hands, what: str, before: Dict[int, int]) -> None:
-    """Old places are on the strips and in the netgraph, and old ways in the diagram, of what moves."""
+    """Old places of moving events are on the strips and in the netgraph, and old paths in the diagram."""
     now = times(page)
     moved = sorted(event for event in now if now[event] != before[event])
     suite.note(f"{what}: strips", {"old": moved}, {"old": sorted(page.ask(GHOSTS))})
@@ -29,7 +29,7 @@ def drawn_over(suite: Suite, page: Hands, what: str, before: Dict[int, int]) -> 
 
 
 def found_seen(suite: Suite, page: Hands) -> None:
-    """What adopting would move is drawn, with how many trains and minutes, and nothing is done until it is taken."""
+    """The moves of adopting are drawn, with the number of trains and minutes, and nothing is done until it is accepted."""
     page.again()
     page.press("optimum")
     page.until(f"{DONE} && !Page.find('adopt').hidden")
@@ -54,7 +54,7 @@ def found_seen(suite: Suite, page: Hands) -> None:
 
 
 def found_listed(suite: Suite, page: Hands) -> None:
-    """Timetables that were found are listed with cost and what they move, of a mend too; each is seen and taken by a click."""
+    """Timetables that were found are listed with cost and moves, also of a mend; each is seen and accepted by a click."""
     page.again()
     page.ask("Page.moveTrain(21, 3)")
     page.frame()
@@ -94,7 +94,7 @@ def found_listed(suite: Suite, page: Hands) -> None:
 
 
 def variant_seen(suite: Suite, page: Hands) -> None:
-    """What taking a variant over would move is drawn above what is shown; one of another network has no such button."""
+    """The moves of taking a variant over are drawn above the present state; one of another network has no such button."""
     page.again()
     kept = times(page)
     page.press("keep-A")

@@ -1,4 +1,4 @@
-"""What once went wrong under a planner's hand, each by the mouse, the keys and the files that showed it."""
+"""Former faults, each by the mouse, the keys and the files that showed it."""
 
 from typing import Callable, List, Tuple
 
@@ -10,7 +10,7 @@ from tests.harness import Suite
 
 NIGHT = {**TWO_TRAINS, "period": "1440\n"}
 FOCUS = "document.activeElement === document.body ? '' : document.activeElement.id || document.activeElement.textContent || document.activeElement.tagName"
-# Pairs of texts of a drawing, each of several letters, of which one lies on the other: their boxes as they are turned.
+# Overlapping pairs of texts of a drawing, each of several letters: by their rotated boxes.
 ON_EACH_OTHER = """(() => {
     const corners = text => {
         const { x, y, width, height } = text.getBBox(), at = text.getScreenCTM(), top = y + height / 8, bottom = y + height - height / 8;
@@ -33,7 +33,7 @@ ON_EACH_OTHER = """(() => {
 
 
 def let_go_first(suite: Suite, page: Hands) -> None:
-    """A double click on an event that is held at its time lets go of it, and the next one takes its time away."""
+    """A double click on an event that is held at its time releases it, and the next one removes its time."""
     page.show(TWO_TRAINS)
     page.ask("Page.step(['fix 2 3'])")
     page.frame()
@@ -53,7 +53,7 @@ def let_go_first(suite: Suite, page: Hands) -> None:
 
 
 def drag_left(suite: Suite, page: Hands) -> None:
-    """A drag that is left, or that comes back, tells nothing of its move afterwards."""
+    """A drag that is cancelled, or that returns, reports nothing of its move afterwards."""
     for name in ("Escape", "back"):
         begun(page)
         x, y = page.middle('[data-way="1"]')
@@ -88,7 +88,7 @@ def line_begun_anew(suite: Suite, page: Hands) -> None:
 
 
 def digits_of_a_clock(suite: Suite, page: Hands) -> None:
-    """Four digits in a field of the day are hours and minutes; elsewhere just those that begin with 0 are."""
+    """Four digits in a field of the day are hours and minutes; elsewhere only those that begin with 0."""
     for typed, line in [("0615", "time 1 375"), ("1815", "time 1 1095"), ("6:15", "time 1 375"), ("375", "time 1 375"), ("2359", "time 1 1439")]:
         page.show(NIGHT)
         page.fill("#time-at", f"{typed}\n")
@@ -102,7 +102,7 @@ def digits_of_a_clock(suite: Suite, page: Hands) -> None:
 
 
 def keys_stay(suite: Suite, page: Hands) -> None:
-    """Whatever a click does away with, the keys are somewhere afterwards, and not on the page as a whole."""
+    """Whatever a click removes, the focus is somewhere afterwards, and not on the page as a whole."""
 
     def moved() -> None:
         page.again()
@@ -165,7 +165,7 @@ def keys_stay(suite: Suite, page: Hands) -> None:
 
 
 def within_the_period(suite: Suite, page: Hands) -> None:
-    """A train is told to move by half a period at most, and all of its events the same way round."""
+    """A train moves by half a period at most in the texts, and all of its events in the same direction."""
     page.again()
     page.ask("Page.showRow(1)")
     page.fill("#move-by", "98")
@@ -190,7 +190,7 @@ def within_the_period(suite: Suite, page: Hands) -> None:
 
 
 def replies_of_now(suite: Suite, page: Hands) -> None:
-    """The reply below the steps goes with the state that it is of."""
+    """The reply below the steps disappears with its state."""
     page.again()
     page.press("tab-lines")
     for name in ("a step", "another network"):
@@ -205,7 +205,7 @@ def replies_of_now(suite: Suite, page: Hands) -> None:
 
 
 def change_at_one_station(suite: Suite, page: Hands) -> None:
-    """A change between two stations is not taken, and what to do is told; of another kind it is."""
+    """A change between two stations is refused, with a remedy; another kind is accepted."""
     page.again()
     page.click(*page.middle('[data-row="4"] .name'))
     page.press("add-from")
@@ -221,7 +221,7 @@ def change_at_one_station(suite: Suite, page: Hands) -> None:
 
 
 def red_texts_apart(suite: Suite, page: Hands) -> None:
-    """No red text of the netgraph or of a diagram lies on another one; where there is no room a mark stands."""
+    """No red text of the netgraph or of a diagram overlaps another one; without room there is a mark."""
     for tab, wanted in [("netgraph", 6), ("diagram", 3)]:
         page.again()
         moved_region(page)
@@ -243,7 +243,7 @@ def red_texts_apart(suite: Suite, page: Hands) -> None:
 
 
 def found_anew(suite: Suite, page: Hands) -> None:
-    """What was typed to find is gone where another network is opened, and its list too."""
+    """The typed text and its list disappear when another network is opened."""
     page.again()
     page.key("/", 191)
     page.type("Ash")

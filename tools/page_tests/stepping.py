@@ -1,4 +1,4 @@
-"""A search goes on step by step in one session of the Worker, which hears between two steps that it is to rest."""
+"""A search runs step by step in one session of the Worker, which receives requests to pause between two steps."""
 
 from typing import List
 
@@ -7,7 +7,7 @@ from page_tests.searching import DONE, long_search, soon_found
 from page_tests.stopping import begun
 from tests.harness import Suite, within
 
-# Has a Worker do something first, and keeps what it tells of its calls beside its answers.
+# Makes a Worker do something first, and keeps its reports of calls beside its answers.
 BESIDE = """(() => {
     const { addEventListener } = Worker.prototype;
     window.calls = [];
@@ -17,7 +17,7 @@ BESIDE = """(() => {
     PespModule.text += `\\n(${() => { FIRST }})();`;
 })()"""
 
-# It tells of Workers that are started, sessions that are opened, and steps of searches that are done.
+# It reports the Workers that are started, sessions that are opened, and steps of searches that are done.
 TELLS = """for (const call of ['start', 'open', 'search']) {
     const does = PespModule[call];
     PespModule[call] = (...given) => {
@@ -27,7 +27,7 @@ TELLS = """for (const call of ['start', 'open', 'search']) {
     };
 }"""
 
-# By its clock, searches go through so many nodes in a millisecond, and tell nothing new; each goes on, or begins anew.
+# By its clock, searches visit this many nodes in a millisecond, and find nothing new; each resumes, or restarts.
 SLOW = """const { performance } = self, now = performance.now.bind(performance);
 let later = 0;
 performance.now = () => now() + later;
@@ -37,7 +37,7 @@ PespModule.search = (module, session, nodes) => {
     return { state: 0, cost: 0n, lowerBound: 0n, goesOn: GOES_ON, times: null, ending: { status: 0 }, fault: '' };
 };"""
 
-# It tells in which session a line is asked.
+# It reports in which session a line is asked.
 ASKS = """const { ask } = PespModule;
 PespModule.ask = (module, session, line) => {
     self.postMessage({ call: 'ask', line, at: Number(session.at) });
@@ -46,7 +46,7 @@ PespModule.ask = (module, session, line) => {
 
 
 def slow(rate: float, goes_on: bool = True) -> str:
-    """The same at so many nodes in a millisecond."""
+    """The same at this many nodes in a millisecond."""
     return SLOW.replace("RATE", str(rate)).replace("GOES_ON", str(goes_on).lower())
 
 
@@ -57,12 +57,12 @@ def count(page: Hands, call: str) -> int:
 
 
 def wait(page: Hands, milliseconds: int) -> None:
-    """Lets so much time pass."""
+    """Lets this much time pass."""
     page.ask(f"new Promise(done => setTimeout(done, {milliseconds}))")
 
 
 def gone_on(page: Hands) -> None:
-    """Goes on with a search, waits until it has done two steps, and stops it."""
+    """Resumes a search, waits until it has done two steps, and stops it."""
     before = count(page, "search")
     page.press("optimum")
     page.until(f"window.calls.filter(({{ call }}) => call === 'search').length > {before + 1}")
@@ -71,7 +71,7 @@ def gone_on(page: Hands) -> None:
 
 @within(240)
 def one_session(suite: Suite, page: Hands) -> None:
-    """What was stopped is gone on with in the same session, beside times that are set, and after an edit that is undone."""
+    """A stopped search is resumed in the same session, beside times that are set, and after an edit that is undone."""
     page.again()
     page.ask(BESIDE.replace("FIRST", TELLS))
     page.show(soon_found())
@@ -94,7 +94,7 @@ def one_session(suite: Suite, page: Hands) -> None:
 
 @within(120)
 def beside_gains(suite: Suite, page: Hands) -> None:
-    """What a minute more would save is asked in another session than that of a search that can be gone on with."""
+    """The question what one more minute would save uses another session than that of a stopped search."""
     page.again()
     page.ask(BESIDE.replace("FIRST", slow(4) + ASKS))
     page.show({**TWO_TRAINS, "times": ""})
@@ -112,7 +112,8 @@ def beside_gains(suite: Suite, page: Hands) -> None:
 
 @within(240)
 def at_once(suite: Suite, page: Hands) -> None:
-    """A long search is stopped within half a second, and the Worker rests after its step; what has no steps ends with the Worker."""
+    """A long search is stopped within half a second, and the Worker pauses after its step; a task without steps ends with the
+    Worker."""
     page.again()
     page.ask(BESIDE.replace("FIRST", TELLS))
     page.show(long_search())
@@ -135,7 +136,7 @@ def at_once(suite: Suite, page: Hands) -> None:
 
 
 def tried(suite: Suite, page: Hands, name: str, most: int, sizes: List[int], told: int) -> None:
-    """Searches on by so many nodes at most: the steps so far, and the nodes that are told."""
+    """Continues searches by this many nodes at most: the steps so far, and the nodes in the report."""
     page.ask(f"Page.find('nodes').value = '{most}'")
     page.press("try")
     page.until(DONE)
@@ -145,8 +146,8 @@ def tried(suite: Suite, page: Hands, name: str, most: int, sizes: List[int], tol
 
 @within(120)
 def even_steps(suite: Suite, page: Hands) -> None:
-    """A step that goes on takes about a quarter of a second, however many nodes a second the module goes through, though it tells
-    nothing new; one that begins anew has twice the nodes; a last one has what is left."""
+    """A resumed step takes about a quarter of a second, however many nodes a second the module visits, even if it finds nothing
+    new; one that restarts has twice the nodes; a last one has the rest."""
     for rate, sizes in [(4, [1000] * 5), (40, [1000, 2000, 4000, 8000, 8000]), (0.4, [1000, 500, 250, 125, 125])]:
         page.again()
         page.ask(BESIDE.replace("FIRST", slow(rate)))

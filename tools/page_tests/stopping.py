@@ -1,4 +1,5 @@
-"""A search as it goes: its clock, the best cost, a bound and how far it may be from the best; stopped, gone on with, adopted, and beside edits."""
+"""A running search: its clock, the best cost, a bound and its distance from the best; stopped, resumed, adopted, and beside edits.
+"""
 
 import re
 from typing import List, Optional
@@ -10,11 +11,11 @@ from page_tests.untouched import STAND_IN
 from tests.harness import Suite, within
 
 FOUND, CLOCK = "Page.find('found').textContent", "Page.find('clock').textContent"
-# A timetable that is perhaps not the best, with a bound or without.
+# A timetable that may not be the best, with a bound or without.
 BEST = re.compile(r"Cost ([\d,]+), (?:at most [\d,.]+ % above the best|perhaps not the best)(?: \(none can be below ([\d,]+)\))?$")
 IS_BEST = f"{FOUND}.startsWith('Cost ')"
 
-# Keeps what a Worker is asked, but for rest, which does not come to it where that is said.
+# Records the tasks of a Worker, except requests to pause, which are dropped if required.
 HEARD = """(() => {
     const { postMessage } = Worker.prototype;
     window.questions = [];
@@ -24,20 +25,20 @@ HEARD = """(() => {
     };
 })()"""
 
-# What is told of the best and of its button, at one moment: a search that runs may find another one at any.
+# The text on the best and its button, at one moment: a running search may find another one at any time.
 OFFERED = """({ found: Page.find('found').textContent, told: Page.find('compared').textContent,
     adopt: Page.find('adopt').getClientRects().length > 0, keys: document.activeElement.id })"""
 
 
 def cost_of(text: str) -> List[Optional[int]]:
-    """The cost of the best that is told, and the bound, or None."""
+    """The cost of the best in the text, and the bound, or None."""
     told = BEST.match(text)
     assert told is not None
     return [None if number is None else int(number.replace(",", "")) for number in told.groups()]
 
 
 def begun(page: Hands, by: str = "mouse") -> None:
-    """Begins a search by a click or by Enter, and waits for a timetable."""
+    """Starts a search by a click or by Enter, and waits for a timetable."""
     if by == "mouse":
         page.press("optimum")
     else:
@@ -47,7 +48,7 @@ def begun(page: Hands, by: str = "mouse") -> None:
 
 
 def in_words(suite: Suite, page: Hands) -> None:
-    """What searches have come to is told in a planner's words, exactly, and never as better than it is."""
+    """The results of searches are described in a planner's words, exactly, and never as better than they are."""
     for answer, told in [
         ("kind: 'none'", "No timetable yet"),
         ("kind: 'none', bound: 14502", "No timetable yet; none can be below 14,502"),
@@ -74,7 +75,7 @@ def in_words(suite: Suite, page: Hands) -> None:
 
 
 def answers_kept(suite: Suite, page: Hands) -> None:
-    """Of several answers the best cost and the best bound are kept, whichever told them; where they meet, the search ends."""
+    """Of several answers the best cost and the best bound are kept, whichever had them; when they meet, the search ends."""
     page.again()
     page.show({**TWO_TRAINS, "times": ""})
     answers = [f"{{ kind: 'stopped', cost: {cost}, bound: {bound}, times: [[1, 0], [2, 4]] }}" for cost, bound in [(90, 60), (100, 80), (85, 70)]]
@@ -94,7 +95,7 @@ def answers_kept(suite: Suite, page: Hands) -> None:
 
 @within(240)
 def stopped_and_gone_on(suite: Suite, page: Hands) -> None:
-    """A search is stopped at once, and gone on with: its clock and what it has come to are as they were."""
+    """A search is stopped at once, and resumed: its clock and its result are unchanged."""
     for by in ("mouse", "keys"):
         page.again()
         page.ask(HEARD)
@@ -117,13 +118,13 @@ def stopped_and_gone_on(suite: Suite, page: Hands) -> None:
         assert took is not None
         came = {"button": page.text("#optimum"), "keys": page.ask("document.activeElement.id") in ("adopt", "optimum"), "adopt": page.is_shown("adopt")}
         suite.note(f"{by}: what can be done", {"button": "Go on", "keys": True, "adopt": True}, came)
-        # No answer comes before it is looked at what stays.
+        # No answer arrives before the check.
         page.ask("window.isHeld = true; Page.find('optimum').focus()")
         if by == "mouse":
             page.press("optimum")
         else:
             page.type("\n")
-        # What a search took is told in tenths, to the nearest one.
+        # The seconds of a search are rounded to tenths.
         suite.holds(f"{by}: the clock goes on", int(page.text("#clock").split()[0]) >= int(float(took[1]) - 0.05))
         suite.holds(f"{by}: what it has come to stays", cost_of(page.text("#found")) == [cost, bound])
         before, after = page.ask("window.questions.map(({ best }) => best && Number(best.cost))")
@@ -133,13 +134,13 @@ def stopped_and_gone_on(suite: Suite, page: Hands) -> None:
 
 @within(240)
 def adopted_meanwhile(suite: Suite, page: Hands) -> None:
-    """What is found is adopted while the search runs, and taken back by one Undo; the search goes on, and offers what is better."""
+    """A result is adopted while the search runs, and undone by one Undo; the search continues, and offers a better one."""
     for by in ("mouse", "keys"):
         page.again()
         page.show(soon_found())
         begun(page, by)
         if by == "mouse":
-            # What is found meanwhile moves the button away below the mouse.
+            # A later result moves the button away below the mouse.
             for _ in range(5):
                 page.press("adopt")
                 if page.ask("Page.session.place"):
@@ -170,7 +171,8 @@ def adopted_meanwhile(suite: Suite, page: Hands) -> None:
 
 @within(240)
 def beside_hands(suite: Suite, page: Hands) -> None:
-    """Choosing, scrolling, other views and a time that is set leave a search alone; an edit of the network ends it, and says so."""
+    """Choosing, scrolling, other views and a time that is set do not affect a search; an edit of the network ends it, and the page
+    says so."""
     page.again()
     page.show(soon_found())
     begun(page)
@@ -196,7 +198,7 @@ def beside_hands(suite: Suite, page: Hands) -> None:
 
 @within(180)
 def without_any(suite: Suite, page: Hands) -> None:
-    """Where nothing meets everything it is said, and a button leads to the mends, by a click and by keys."""
+    """If nothing meets everything the page says so, and a button leads to the repairs, by a click and by keys."""
     for by in ("mouse", "keys"):
         page.again()
         page.ask("Page.openStory(Page.stories[1])")
@@ -227,7 +229,7 @@ def without_any(suite: Suite, page: Hands) -> None:
 
 
 def in_numbers(suite: Suite, page: Hands) -> None:
-    """What is told in numbers is what the line `optimum` tells."""
+    """The result in numbers is that of the line `optimum`."""
     none = {**TWO_TRAINS, "times": "", "activities": "1; 1; 2; 3; 3; 2\n2; 2; 1; 4; 6; 1\n"}
     for texts, told, lines in [
         ({**TWO_TRAINS, "times": ""}, "Cost 4: no timetable is better.", ["optimum 4 2", "1 0", "2 4"]),
@@ -246,7 +248,7 @@ def in_numbers(suite: Suite, page: Hands) -> None:
 
 @within(120)
 def on_any_screen(suite: Suite, page: Hands) -> None:
-    """What a search tells is seen whole on a wide screen and on a small one, while it runs and after."""
+    """The text of a search is completely visible on a wide screen and on a small one, during the search and after."""
     for width in (1360, 390):
         page.again()
         page.resize(width, 850)

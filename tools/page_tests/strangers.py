@@ -1,4 +1,4 @@
-"""What strangers put into files that exist: none of it acts, each fault is told, and what takes long can be stopped."""
+"""Files of strangers: none of their contents acts, each fault is reported, and long work can be stopped."""
 
 import pathlib
 import tempfile
@@ -8,7 +8,7 @@ from page_tests.untouched import placed
 from tests.harness import Suite
 
 TWO_EVENTS = "add event 1\nadd event 2\n"
-# A network of 600 events, each joined to three others by spans that overlap, of which a search takes long.
+# A network of 600 events, each joined to three others by overlapping spans, whose search takes long.
 JOINED = [(event, (step * event + step) % 600, 3 + event * step % 17) for event in range(600) for step in (1, 7, 31)]
 LONG = "".join(f"add event {event}\n" for event in range(600)) + "".join(
     f"add activity {number} {first} {last} {lower} {lower + 30} {1 + number % 13}\n"
@@ -17,7 +17,7 @@ LONG = "".join(f"add event {event}\n" for event in range(600)) + "".join(
 
 
 def played(suite: Suite, page: Hands) -> None:
-    """A file of lines that searches, or has many lines, is played where it can be stopped, and changes nothing then."""
+    """A file of lines that searches, or has many lines, can be stopped, and changes nothing then."""
     with tempfile.TemporaryDirectory() as folder:
         page.again()
         state = page.state()
@@ -47,7 +47,7 @@ def played(suite: Suite, page: Hands) -> None:
 
 
 def commands(suite: Suite, page: Hands) -> None:
-    """A field of the page's own files is no command, whatever is in its quotes, and a line that is too long is told."""
+    """A field of the page's own files is not a command, whatever is in its quotes, and a line that is too long is reported."""
     two = {"activities": "1; 1; 2; 3; 5; 2\n", "period": "10"}
     for name, texts, told in [
         ("a window", {"windows": '1; 3; "2\nadd event 5"\n'}, "windows file, record 1: field 3 is not a number"),
@@ -94,7 +94,7 @@ def names(suite: Suite, page: Hands) -> None:
 
 
 def trapped(suite: Suite, page: Hands) -> None:
-    """What was trapped is told, is not used again, and is no longer on the screen."""
+    """A trapped session is reported, not used again, and no longer on the screen."""
     page.again()
     page.ask("""(() => {
         const { ask } = PespModule, broken = new Set(), said = Page.find('said');
@@ -119,7 +119,7 @@ def trapped(suite: Suite, page: Hands) -> None:
 
 
 def helped(suite: Suite, page: Hands) -> None:
-    """A file of another form that is not converted is told with what it has, and with what mends it."""
+    """A file of another form that is not converted is reported with its form, and with a remedy."""
     rows = "activity; from; to; lower; upper; weight\n1; 1; 2; 3; 5; 2\n"
     decimal = "It has decimal commas. Write whole numbers, as 2, or with a point"
     for name, data, word in [

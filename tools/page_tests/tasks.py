@@ -1,4 +1,4 @@
-"""Tasks of a planner, each done once by a mouse and once by keys, in as many steps as page/README.md tells."""
+"""A planner's tasks, each done once by a mouse and once by keys, in the number of steps of page/README.md."""
 
 import base64
 import os
@@ -21,13 +21,13 @@ VIOLATED = "Page.countViolated(Page.view)"
 
 
 class Steps:
-    """Hands that count: a drag, a click, a key, or a word that is typed is one step."""
+    """Input that is counted: a drag, a click, a key, or a typed word is one step."""
 
     def __init__(self, page: Hands) -> None:
         self.page, self.count = page, 0
 
     def drag(self, selector: str, minutes: float, width: float) -> None:
-        """Drags the middle of an element by some minutes; its width is so many."""
+        """Drags the middle of an element by some minutes, of which its width has this many."""
         self.count += 1
         x, y = self.page.middle(selector)
         minute = self.page.box(selector)[2] / width
@@ -45,7 +45,7 @@ class Steps:
             self.page.frame()
 
     def word(self, text: str) -> None:
-        """A word that is typed where the keys are; a line feed, which is Enter, is a step more."""
+        """A word that is typed into the focused field; a line feed, which is Enter, is one more step."""
         self.count += 1 + text.count("\n")
         self.page.type(text)
 
@@ -60,7 +60,7 @@ class Steps:
         self.word(f"{text}\n")
 
     def back(self, identifier: str) -> None:
-        """Goes from the field that finds back to what has an id."""
+        """Goes from the search field back to the element of an id."""
         self.press("/")
         for _ in range(20):
             if self.page.ask("document.activeElement.id") == identifier:
@@ -69,18 +69,18 @@ class Steps:
         raise AssertionError(f"no way leads back to {identifier}")
 
 
-# A task in one way, and what was made.
+# A task in one way, and its result.
 Way = Callable[[Steps], object]
 
 
 def told() -> Dict[str, List[int]]:
-    """The steps that the document tells, of each task by a mouse and by keys."""
+    """The steps in the document, of each task by a mouse and by keys."""
     rows = re.findall(r"^\|([^|]+)\|(\d+)\|(\d+)\|$", (TOP / "page/README.md").read_text(), re.M)
     return {task: [int(mouse), int(keys)] for task, mouse, keys in rows}
 
 
 def compared(suite: Suite, page: Hands, task: str, by_mouse: Way, by_keys: Way) -> Any:
-    """Does a task in both ways, and compares what was made, and the steps with those told."""
+    """Does a task in both ways, and compares the results, and the steps with the document's."""
     made, counts = [], []
     for hands in (by_mouse, by_keys):
         page.again()
@@ -93,7 +93,7 @@ def compared(suite: Suite, page: Hands, task: str, by_mouse: Way, by_keys: Way) 
 
 
 def shifted(suite: Suite, page: Hands) -> None:
-    """A train runs 3 minutes later; the turn that breaks is red at its place, and is mended by the train back."""
+    """A train runs 3 minutes later; the violated turn is red at its place, and is mended by the train back."""
 
     def by_mouse(steps: Steps) -> object:
         broken = []
@@ -129,8 +129,8 @@ def moved_and_mended(page: Hands, steps: Steps, move: Callable[[], None], mend: 
 
 @within(1800)
 def each_shifted(suite: Suite, page: Hands) -> None:
-    """Trains of three regions run 3 minutes later, and what breaks is mended: in as many steps as are told, or fewer. Every third
-    train is tried; with PESPBENCH_EACH_TRAIN in the environment each is, which takes some minutes."""
+    """Trains of three regions run 3 minutes later, and violations are mended: in as many steps as documented, or fewer. Every
+    third train is tried; with PESPBENCH_EACH_TRAIN in the environment each is, which takes some minutes."""
     most, trains = told()["move any train by 3, mend it"], 0
     for seed in (1, 2, 3):
         page.again()
@@ -165,7 +165,7 @@ def each_shifted(suite: Suite, page: Hands) -> None:
 
 
 def better_minute(suite: Suite, page: Hands) -> None:
-    """A departure gets a better minute: what each one costs is drawn, and a click on the best takes it over with its timetable."""
+    """A departure gets a better minute: the prices are drawn, and a click on the best takes it over with its timetable."""
     best = "parseInt(document.querySelector('#prices .curve .best').style.left) * 60 / 100 | 0"
 
     def prepared() -> None:
@@ -213,7 +213,7 @@ def better_minute(suite: Suite, page: Hands) -> None:
 
 
 def held_and_best(suite: Suite, page: Hands) -> None:
-    """A neighbour's train leaves when it has to, and the best timetable beside it is adopted, in which a train is sooner at its end."""
+    """A neighbour's train leaves at a fixed minute, and the best timetable with it is adopted, in which a train arrives sooner."""
     late = TRAINS["times"].replace("4; 32", "4; 33")
 
     def best() -> None:
@@ -246,7 +246,7 @@ def held_and_best(suite: Suite, page: Hands) -> None:
 
 
 def why_mended(suite: Suite, page: Hands) -> None:
-    """Why there is no timetable is asked, and mended by the first mend; then there is one."""
+    """The page explains why there is no timetable, and its first repair is made; then there is one."""
 
     def asked(steps: Steps, ask: Callable[[], None], mend: Callable[[], None]) -> object:
         page.ask("Page.openStory(Page.stories[1])")
@@ -274,7 +274,7 @@ def why_mended(suite: Suite, page: Hands) -> None:
 
 
 def connected(suite: Suite, page: Hands) -> None:
-    """Passengers get a connection between two trains that are chosen."""
+    """Passengers get a connection between two chosen trains."""
 
     def by_mouse(steps: Steps) -> object:
         steps.click('[data-row="4"] .name')
@@ -303,7 +303,7 @@ def connected(suite: Suite, page: Hands) -> None:
 
 
 def handed_over(suite: Suite, page: Hands) -> None:
-    """The timetable that is shown is handed over as a link that opens elsewhere, and on paper."""
+    """The timetable shown is handed over as a link that opens elsewhere, and on paper."""
 
     def over(act: Callable[[], None], leave: Callable[[], None], paper: Callable[[], None]) -> object:
         page.ask("Page.step(['time 1 7']); window.print = () => { window.isPrinted = true; }")
@@ -332,7 +332,7 @@ def handed_over(suite: Suite, page: Hands) -> None:
                 steps.key("Tab")
             steps.press("\n")
 
-        # The browser itself prints by Ctrl+P, where the page leaves it that key.
+        # The browser itself prints by Ctrl+P, if the page leaves it that key.
         page.ask("addEventListener('keydown', event => { window.isLeft = event.key === 'p' && !event.defaultPrevented; })")
         came = over(act, lambda: steps.key("Escape"), lambda: steps.key("p", CTRL))
         suite.holds("the browser has its key", page.ask("window.isLeft === true"))
@@ -351,7 +351,7 @@ def handed_over(suite: Suite, page: Hands) -> None:
 
 
 def both_ways(suite: Suite, page: Hands) -> None:
-    """A train runs earlier in one variant; both are kept and told beside each other, and the cheaper one is taken over."""
+    """A train runs earlier in one variant; both are kept and compared, and the cheaper one is taken over."""
     drawn = "[...document.querySelectorAll('#view-compare .beside .sum td')].map(each => each.textContent)"
 
     def told() -> object:

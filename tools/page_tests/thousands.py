@@ -1,4 +1,4 @@
-"""At 2,048 events the page answers at once, tells what it knows as it goes, and says no more than that."""
+"""At 2,048 events the page answers at once, reports what it knows meanwhile, and no more than that."""
 
 import re
 from typing import Any, Dict, List
@@ -9,10 +9,10 @@ from page_tests.hands import TWO_TRAINS, Hands
 from tests.harness import Suite, within
 
 MET = "The timetable shown meets everything, so there is no conflict."
-# The numbers of the netgraph by their events, and the same as the times that are shown.
+# The numbers of the netgraph by their events, and the same from the times shown.
 NUMBERS = "Object.fromEntries([...document.querySelectorAll('#netgraph tspan')].map(each => [each.dataset.event, each.textContent]))"
 TIMES = "Object.fromEntries([...Page.view.times].map(([event, time]) => [event, String(time).padStart(2, '0')]))"
-# The bounds that a search tells.
+# The bounds that a search reports.
 BOUNDS = """window.bounds = [];
 new MutationObserver(() => {
     const [, bound] = /none can be below ([0-9,]+)/.exec(Page.find('found').textContent) || [];
@@ -27,7 +27,8 @@ def numbers_of(text: str) -> List[int]:
 
 @within(400)
 def why_of_many(suite: Suite, page: Hands) -> None:
-    """A timetable that is shown or found and meets everything is the answer to why at once; what one violates leads to the conflict."""
+    """If a shown or found timetable meets everything, that is the answer to why at once; the violations of one lead to the
+    conflict."""
     page.again()
     page.show(large.texts())
     page.press("ask-why")
@@ -47,7 +48,7 @@ def why_of_many(suite: Suite, page: Hands) -> None:
 
 @within(400)
 def bound_of_many(suite: Suite, page: Hands) -> None:
-    """A search tells a bound, which grows; of regions side by side it is what their optima cost, at the end."""
+    """A search reports a bound, which rises; for independent regions it is the sum of their optima at the end."""
     page.again()
     page.show(large.texts())
     page.ask(BOUNDS)
@@ -70,13 +71,13 @@ def bound_of_many(suite: Suite, page: Hands) -> None:
 
 
 def gain_words(page: Hands) -> Dict[str, Any]:
-    """What is told above the list of what would help."""
+    """The text above the list of what would help."""
     return {"told": page.ask("[...document.querySelectorAll('#gains > p')].map(each => each.textContent).join(' ')")}
 
 
 @within(400)
 def help_of_many(suite: Suite, page: Hands) -> None:
-    """What would help begins with the timetable that is shown, tells how far it is, and leaves what it has when it is stopped."""
+    """What would help starts with the timetable shown, shows its progress, and keeps its results when it is stopped."""
     page.again()
     page.show(large.texts())
     cost = page.text("#figure-cost b")
@@ -117,7 +118,7 @@ def mend_of_many(suite: Suite, page: Hands) -> None:
 
 
 def better_as_it_is(suite: Suite, page: Hands) -> None:
-    """A timetable that was found with a minute more, and does not need it, is one of the network as it is."""
+    """A timetable that was found with one more minute, and does not need it, is one of the unchanged network."""
     page.show(TWO_TRAINS)
     for name, after, paid, times, wanted in [
         ("more, not needed", [3, 6], 0, [0, 5], ["stopped", 9]), ("more, needed", [3, 6], 0, [0, 6], ["none", None]),
@@ -133,7 +134,7 @@ def better_as_it_is(suite: Suite, page: Hands) -> None:
 
 @within(400)
 def netgraph_of_many(suite: Suite, page: Hands) -> None:
-    """A large netgraph leaves the page usable while it is drawn, has what is in sight alone, and what is scrolled to."""
+    """A large netgraph leaves the page usable while it is drawn, has only its visible part, and follows scrolling."""
     page.again()
     page.show(large.texts())
     page.ask("window.busy = []; window.addEventListener('click', () => busy.push(Page.find('netgraph').getAttribute('aria-busy')), true)")

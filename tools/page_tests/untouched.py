@@ -1,4 +1,4 @@
-"""The page as it opens, by real keys, clicks and files that exist: what loses work, and what is typed."""
+"""The page as it opens, by real keys, clicks and existing files: what loses work, and what is typed."""
 
 import pathlib
 import tempfile
@@ -9,7 +9,7 @@ from page_tests.keys import CODES, CTRL
 from page_tests.searching import DONE, soon_found
 from tests.harness import Suite
 
-# A Worker that gives these answers to each search, one after another, the last of which ends it.
+# A Worker that returns these answers to each search, one after another, the last of which ends it.
 STAND_IN = """window.Worker = class {
     addEventListener(name, listener) { if (name === 'message') this.listener = listener; }
     postMessage({ id, kind }) {
@@ -24,7 +24,7 @@ STAND_IN = """window.Worker = class {
 
 
 def placed(folder: Union[str, pathlib.Path], texts: Mapping[str, str]) -> List[pathlib.Path]:
-    """Files that exist, with these texts by their names."""
+    """Existing files, with these texts by their names."""
     paths = []
     for name, text in texts.items():
         paths.append(pathlib.Path(folder) / name)
@@ -67,7 +67,7 @@ def shortcuts(suite: Suite, page: Hands) -> None:
 
 
 def typed(suite: Suite, page: Hands) -> None:
-    """What is typed for minutes may be a time of the clock, and is no other number than that."""
+    """Typed minutes may be a clock time, and are no other number than that."""
     for period, field, text, line, said in [
         ("1440", "#time-at", "6:15", "time 1 375", "M to Benton leaves Ashford at 6:15"),
         ("1440", "#hold-first", "23:05", "window 1 1385 1", "M to Benton leaves Ashford: held at 23:05"),
@@ -92,7 +92,7 @@ def typed(suite: Suite, page: Hands) -> None:
 
 
 def saved(suite: Suite, page: Hands) -> None:
-    """A step is saved where each file that it changes was given, or the archive; other files do not count."""
+    """A step is saved if each file that it changes was saved, or the archive; other files do not count."""
     for wanted, given in [(1, ["period"]), (1, ["labels"]), (0, ["fixed"]), (0, ["period", "fixed"]), (0, ["save-all"])]:
         page.again()
         page.drag([page.minute(1, 20), page.minute(1, 30)])
@@ -109,7 +109,7 @@ def saved(suite: Suite, page: Hands) -> None:
 
 
 def replaced(suite: Suite, page: Hands) -> None:
-    """Files that are dropped on work that is not saved are opened by a click alone, below a word on what is lost."""
+    """Files that are dropped on unsaved work are opened only by a click, below a remark on what is lost."""
     with tempfile.TemporaryDirectory() as folder:
         paths = placed(folder, TWO_TRAINS)
         page.again()
@@ -141,7 +141,7 @@ def replaced(suite: Suite, page: Hands) -> None:
 
 
 def frames(suite: Suite, page: Hands) -> None:
-    """Both ends of a frame can be taken where the diamond lies in it, and the diamond too."""
+    """Both ends of a frame can be dragged if the diamond is in it, and the diamond too."""
     page.again()
     time = page.ask("Page.view.times.get(1)")
     unit = page.minute(1, 1)[0] - page.minute(1, 0)[0]
@@ -161,7 +161,7 @@ def frames(suite: Suite, page: Hands) -> None:
 
 
 def edited(suite: Suite, page: Hands) -> None:
-    """An edit during a search says what becomes of what was found, and its undo gives that back."""
+    """An edit during a search says what happens to its result, and its undo restores that."""
     page.again()
     page.show(soon_found())
     page.press("optimum")
@@ -182,7 +182,7 @@ def edited(suite: Suite, page: Hands) -> None:
 
 
 def compared(suite: Suite, page: Hands) -> None:
-    """Of several answers the best is kept, and one that is worse than the timetable shown is offered with that word."""
+    """Of several answers the best is kept, and one that is worse than the timetable shown is offered with that remark."""
     page.again()
     page.show({**TWO_TRAINS, "times": ""})
     better, worse = ["{ kind: 'stopped', cost: %d, times: [[1, 0], [2, %d]] }" % each for each in [(4, 4), (5, 5)]]

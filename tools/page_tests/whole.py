@@ -1,4 +1,4 @@
-"""The page as a whole: that nothing leaves it, how it is laid out, printed, and what it says of itself."""
+"""The page as a whole: that nothing leaves it, its layout, printing, and what it says about itself."""
 
 import base64
 import pathlib
@@ -12,7 +12,7 @@ from tests.harness import Suite, within
 MOST_BYTES = 720_000
 
 
-# Requests that a page could make; each tells whether it was sent.
+# Requests that a page could make; each records whether it was sent.
 REQUESTS = {
     "fetch": "fetch('https://example.org/').then(() => 'sent', () => 'refused')",
     "an image": """new Promise(done => {
@@ -44,7 +44,7 @@ LOOK = """(() => {
 
 
 def quiet(suite: Suite, page: Hands) -> None:
-    """No request leaves the page, nothing is written to the browser's log, and the policy refuses what would."""
+    """No request leaves the page, nothing is written to the browser's log, and the policy refuses all requests."""
     page.open(page.address)
     suite.note(
         "requests",
@@ -71,7 +71,7 @@ def quiet(suite: Suite, page: Hands) -> None:
 
 
 def left(suite: Suite, page: Hands) -> None:
-    """The page asks before it is left with steps that are not saved, and not else."""
+    """The page asks before it is left with unsaved steps, and only then."""
     for name, script, wanted in [
         ("nothing was done", "", 0),
         ("a step is not saved", "Page.step(['fix 2 40'])", 1),
@@ -79,7 +79,7 @@ def left(suite: Suite, page: Hands) -> None:
         ("it is saved", "Page.step(['fix 2 40']); Page.showSaving(); Page.find('save-all').click()", 0),
     ]:
         page.ask(f"Page.openStory(Page.stories[0]); {script}")
-        # A browser asks only where somebody did something on the page.
+        # A browser asks only after an action on the page.
         page.click(*page.middle("#title"))
         before = page.asked_to_stay
         page.open(page.address)
@@ -124,7 +124,7 @@ def laid_out(suite: Suite, page: Hands) -> None:
 
 
 def drawn(suite: Suite, page: Hands) -> None:
-    """The diagram and the netgraph show the times that replies tell, and follow each step."""
+    """The diagram and the netgraph show the times of replies, and follow each step."""
     page.ask("Page.openStory(Page.stories[0]); Page.showTab('netgraph')")
     wanted = page.ask(
         "Object.fromEntries([...Page.view.times].map(([event, time]) => [event, String(time).padStart(2, '0')]))"
@@ -142,7 +142,7 @@ def drawn(suite: Suite, page: Hands) -> None:
         "Page.view.lines[0].trains.map(train => [train.events[0], train.events[train.events.length - 1]]).flat()"
     )
     suite.note("the ends of trains", {"they": [wanted[str(event)] for event in trains]}, {"they": ends})
-    # Each way of the line goes through the minutes of its train's events.
+    # Each path of the line goes through the minutes of its train's events.
     left, width = page.across("diagram")
     ways = page.ask(
         "[...document.querySelectorAll('#diagram path[stroke-width=\"2.6\"]')].map(each => each.getAttribute('d'))"

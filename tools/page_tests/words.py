@@ -1,4 +1,4 @@
-"""Words: the legend, help on numbers, hours, and no word that a planner would not say."""
+"""Words: the legend, help on numbers, hours, and no word that a planner would not use."""
 
 import re
 
@@ -8,9 +8,9 @@ from page_tests.hands import Hands
 from tests.harness import Suite
 
 TABS = ("diagram", "corridor", "netgraph", "station", "tables", "compare", "violated", "lines", "why", "gains")
-# Words of the program and of its commands, which are none of a planner.
+# Words of the program and of its commands, which no planner uses.
 FOREIGN = re.compile(r"\b(domains?|nodes?|residues?|tensions?|dump|journal|(?:lines?) of commands|more lines|narrowed|cases?|drawn|adopt\w*|spans?)\b", re.I)
-# All texts that are seen, told or shown on a pointer.
+# All visible, announced or hovering texts.
 TEXTS = """[document.body.innerText, ...[...document.querySelectorAll('[title], [aria-label], [placeholder], [aria-valuetext]')].flatMap(each =>
     ['title', 'aria-label', 'placeholder', 'aria-valuetext'].map(name => each.getAttribute(name) || ''))].join('\\n')"""
 
@@ -28,7 +28,7 @@ def legend(suite: Suite, page: Hands) -> None:
 
 
 def help_on_numbers(suite: Suite, page: Hands) -> None:
-    """Each number has words on it, opened by a mouse, keys and a finger, and closed by Escape."""
+    """Each number has help, opened by a mouse, keys and a finger, and closed by Escape."""
     page.again()
     near = """[...document.querySelectorAll('#size, .figure, #nodes, #chosen-minutes, h3')].filter(each => !each.closest('#rows, dialog')
         && !each.closest('.with-help, p, form, h3, label').parentElement.querySelector('[data-help]')).map(each => each.id || each.textContent)"""
@@ -62,7 +62,7 @@ def help_on_numbers(suite: Suite, page: Hands) -> None:
 
 
 def planners_words(suite: Suite, page: Hands) -> None:
-    """No text has a word of the program that a planner would not say."""
+    """No text has a word of the program that a planner would not use."""
     page.again()
     for story in range(3):
         page.ask(f"Page.openStory(Page.stories[{story}]); document.querySelectorAll('details').forEach(each => {{ each.open = true; }})")
@@ -95,7 +95,7 @@ def planners_words(suite: Suite, page: Hands) -> None:
 
 
 def hours(suite: Suite, page: Hands) -> None:
-    """Above a period of an hour minutes are told as h:mm, and what takes an hour or more too."""
+    """Above a period of an hour minutes are written as h:mm, and so are durations of an hour or more."""
     for period, clock, length, late, taken in [
         (60, ":59", "59", 59, "59 minutes"), (90, "1:29", "1:29", 89, "1:29 h"), (1440, "23:59", "23:59", 100, "1:40 h")
     ]:

@@ -1,1 +1,1 @@
-"""The making of the page."""
+"""The build of the page."""

@@ -1,8 +1,8 @@
 """The library in process, and its LLVM module, from which the page's is made.
 
-The toolchain's rattle proves the library, or takes it as proved, and gives its clang one LLVM module; a clang of ours hands
-that on, and keeps it. The libraries below are those that the gate has left, where it ran since their sources changed, and else
-`rt lib` builds them first.
+The toolchain's rattle proves the library, or uses its stored proof, and gives its clang one LLVM module; a clang of ours
+passes that on, and keeps it. The libraries below are those left by the gate, if it ran since their sources changed, and
+otherwise `rt lib` builds them first.
 """
 
 import pathlib
@@ -19,31 +19,31 @@ MODULE = CRATE / f"out/{LIBRARY}.bc"
 
 
 def rlib(name: str) -> pathlib.Path:
-    """A library below, as rattle has built it."""
+    """A library that this one depends on, as built by rattle."""
     return TOP / "crates" / name / "out/rlib" / f"{name}.rlib"
 
 
 def changed_at(name: str, parts: Sequence[str] = ("src", "specs")) -> float:
-    """When a source of the crate was last changed, or came or went."""
+    """When a source of the crate was last changed, added or removed."""
     folders = [TOP / "crates" / name / part for part in parts if (TOP / "crates" / name / part).exists()]
     return max(path.stat().st_mtime for folder in folders for path in [folder, *folder.rglob("*")])
 
 
 def is_of_the_gate(name: str) -> bool:
-    """Whether the gate has left the library, as the present sources make it; what other commands built has a stamp."""
+    """Whether the gate has left the library, built from the present sources; a build by other commands has a stamp."""
     built = rlib(name)
     is_there = built.is_dir() and not built.with_name("stamp").exists()
     return is_there and built.stat().st_mtime >= changed_at(name, ("src", "specs", "proofs"))
 
 
 def is_built() -> bool:
-    """Whether the library and its module were built since a source changed."""
+    """Whether the library and its module were built since the last change of a source."""
     last = max([(TOP / "crates.txt").stat().st_mtime, *map(changed_at, [LIBRARY, *below(LIBRARY)])])
     return all(path.is_file() and path.stat().st_mtime >= last for path in (MADE, MODULE))
 
 
 def keeping_toolchain(folder: pathlib.Path, kit: pathlib.Path) -> None:
-    """A toolchain whose clang keeps what it is given in `folder`/kept. Rattle calls it without an environment."""
+    """A toolchain whose clang keeps its input in `folder`/kept. Rattle calls it without an environment."""
     (folder / "kept").mkdir()
     (folder / "bin").mkdir()
     (folder / "lib").symlink_to(kit / "toolchain/lib")
@@ -57,7 +57,7 @@ def keeping_toolchain(folder: pathlib.Path, kit: pathlib.Path) -> None:
 
 
 def words_of_build(kit: pathlib.Path, folder: pathlib.Path) -> List[object]:
-    """As `rt lib` calls rattle."""
+    """Like the call of rattle in `rt lib`."""
     known = crates()
     words: List[object] = ["--crate-name", LIBRARY, "src/lib.rt", "--extern", f"std={kit}/rlibs/std.rlib", "-L", f"dependency={kit}/rlibs"]
     for name in known[LIBRARY]:
@@ -87,7 +87,7 @@ def build() -> None:
 
 
 def built_library() -> pathlib.Path:
-    """The library, which is built where it was not since a source changed."""
+    """The library, rebuilt if a source has changed since."""
     if not is_built():
         build()
     return MADE

@@ -1,4 +1,4 @@
-"""The page is made, or compared with the one that is there."""
+"""Builds the page, or compares it with the existing one."""
 
 import argparse
 import pathlib
@@ -12,13 +12,13 @@ from paging.tree import LIBRARY, MADE, PAGE, TOP, NotMade, below
 
 
 def sources() -> List[str]:
-    """What the page is made of, by paths from the top."""
+    """The sources of the page, by paths from the top."""
     crates = [f"crates/{name}/{part}" for name in [LIBRARY, *below(LIBRARY)] for part in ("src", "specs")]
     return ["crates.txt", "page", "python/pespbench/VERSION", "tools/page", "tools/paging", *crates]
 
 
 def changed_at(paths: Sequence[str]) -> float:
-    """When something there was last changed: by its commit, or now where it is changed after that; 0 where it is unknown."""
+    """When a source was last changed: by its commit, or now if it was changed after that; 0 if unknown."""
     words = ["git", "-C", str(TOP), "log", "-1", "--format=%ct", "--", *paths]
     told = subprocess.run(words, capture_output=True, text=True, check=False).stdout.strip()
     words = ["git", "-C", str(TOP), "status", "--porcelain", "--", *paths]
@@ -39,7 +39,7 @@ def which_is_older() -> str:
 
 
 def difference(anew: bytes) -> str:
-    """What a page has other than the one that is there; '' where they are the same."""
+    """The differences of a page from the existing one; '' if they are equal."""
     if not MADE.is_file():
         return "there is no page/pespbench.html: tools/page makes it"
     there = MADE.read_bytes()
@@ -52,12 +52,12 @@ def difference(anew: bytes) -> str:
 
 
 def made_by(words: argparse.Namespace) -> str:
-    """What the module is made by; no tool is asked for one that is given."""
+    """The tools that make the module; none for a given one."""
     return f"with the module in {words.given}" if words.given else f"made by {tools()}"
 
 
 def checked(anew: bytes, made: str) -> bool:
-    """Tells whether the page that is there is the one made anew."""
+    """Reports whether the existing page equals a new build."""
     fault = difference(anew)
     print(f"FAILED {fault}" if fault else "page/pespbench.html is the page made anew, byte for byte")
     print(made)
@@ -73,7 +73,7 @@ def work(words: argparse.Namespace) -> bool:
         words.module.write_bytes(module)
         print(f"{words.module}: {len(module):,} bytes, {made_by(words)}")
         return False
-    # In a page the module is packed already, so that zopfli is not needed.
+    # In a page the module is already packed, so zopfli is not needed.
     page = assembled(PAGE, packed_in(data) if is_page else packed(module))
     if words.check:
         return checked(page, made_by(words))

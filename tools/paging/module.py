@@ -1,8 +1,8 @@
 """The module: the proved library, compiled for a page.
 
-The library comes with its LLVM module for this machine (paging/library.py). Its layout and its target are written anew, for
-WebAssembly with addresses of 64 bits, which is what the library is made for; the toolchain's clang compiles it, with the heap
-of page/module/heap.c, and links it. Browsers of today have addresses of 32 bits, to which wasm-opt lowers them.
+The library comes with its LLVM module for this machine (paging/library.py). Its layout and its target are rewritten for
+WebAssembly with addresses of 64 bits, like those that the library was made for; the toolchain's clang compiles it, with the
+heap of page/module/heap.c, and links it. Current browsers have addresses of 32 bits, to which wasm-opt lowers them.
 """
 
 import pathlib
@@ -22,15 +22,15 @@ EXPORTS = ["pesp_answer", "pesp_open", "pesp_close", "pesp_ask", "pesp_cost"]
 EXPORTS += ["pesp_try_move", "pesp_events", "pesp_times", "pesp_domain", "pesp_search", "pesp_price", "pesp_price_tension"]
 STACK = 1024 * 1024
 
-# As rattle calls clang, but for what is of x86 alone, and at -Os, which makes the module a twentieth smaller than -O2 and takes
-# at most a tenth longer for a search; the last two have no calls of functions that are not there.
+# Like rattle's call of clang, except for options of x86, and at -Os, which makes the module a twentieth smaller than -O2 and
+# takes at most a tenth longer for a search; the last two prevent calls of missing functions.
 FLAGS = ["-ffunction-sections", "-fdata-sections", "-fintegrated-cc1", "-Os", "-Wno-override-module"]
 FLAGS += ["-mllvm", "-trap-unreachable", "-mllvm", "-disable-machine-licm", "-mllvm", "-sink-common-insts=false"]
 FLAGS += ["-mllvm", "-expand-div-rem-bits=64", "-mllvm", "-expand-fp-convert-bits=64"]
 HEAP_FLAGS = ["-O2", "-ffreestanding", "-fno-builtin", "-nostdinc"]
 PLAIN = [f"--target={TARGET}", f"-mcpu={CPU}", "--no-default-config", "-no-canonical-prefixes"]
 
-# What the compiled module uses, which wasm-opt has to be told.
+# The features of the compiled module, which wasm-opt needs to know.
 FEATURES = ["bulk-memory", "extended-const", "multivalue", "mutable-globals", "nontrapping-float-to-int", "sign-ext"]
 LOWERING = ["--enable-memory64", *(f"--enable-{name}" for name in FEATURES), "--memory64-lowering", "-Os", "--converge"]
 LOWERING += ["--strip-debug", "--strip-producers", "--strip-target-features"]
@@ -43,7 +43,7 @@ def written_anew(text: str) -> str:
         text, count = re.subn(place, line, text, flags=re.M)
         if count != 1:
             raise NotMade(f"the library's LLVM module has {count} lines like {place}")
-    # What the module does not export is not compiled, so that nothing is inlined for it.
+    # Functions that the module does not export are not compiled, so that nothing is inlined for them.
     text = re.sub(r"^define (void @(\w+)\()", lambda found: found[0] if found[2] in EXPORTS else f"define internal {found[1]}", text, flags=re.M)
     text = re.sub(r'"target-cpu"="[^"]*"', f'"target-cpu"="{CPU}"', text)
     return re.sub(r'"probe-stack"="[^"]*" "stack-probe-size"="[^"]*"', "", text)
@@ -54,7 +54,7 @@ def compiled(kit: pathlib.Path, kept: pathlib.Path, folder: pathlib.Path) -> byt
     clang, text = kit / "toolchain/bin/clang", folder / "library.ll"
     run([clang, "-x", "ir", kept, "-S", "-emit-llvm", "-O0", "-Xclang", "-disable-llvm-passes", "-o", text])
     text.write_text(written_anew(text.read_text()))
-    # Run where the files are, so that no path of this machine can come into what is made.
+    # Runs in the folder of the files, so that no path of this machine gets into the result.
     run([clang, *PLAIN, *FLAGS, "-c", "-x", "ir", "library.ll", "-o", "library.o"], cwd=folder)
     shutil.copy(PAGE / "module/heap.c", folder / "heap.c")
     run([clang, *PLAIN, *HEAP_FLAGS, "-c", "heap.c", "-o", "heap.o"], cwd=folder)
@@ -65,7 +65,7 @@ def compiled(kit: pathlib.Path, kept: pathlib.Path, folder: pathlib.Path) -> byt
 
 
 def sections(module: bytes) -> Iterator[Tuple[int, bytes]]:
-    """Of each section its kind and its bytes, which begin with the kind and the length."""
+    """For each section its kind and its bytes, which begin with the kind and the length."""
     place = 8
     while place < len(module):
         length, shift, start = 0, 0, place + 1
@@ -82,7 +82,7 @@ TABLE, ELEMENTS = 4, 9
 
 
 def without_table(module: bytes) -> bytes:
-    """Without the empty table, which has addresses of 64 bits and which no call goes by."""
+    """Without the empty table, which has addresses of 64 bits and which no call uses."""
     parts = list(sections(module))
     if ELEMENTS in [kind for kind, _ in parts]:
         raise NotMade("the module calls functions by a table")
@@ -99,7 +99,7 @@ def lowered(module: bytes, folder: pathlib.Path) -> bytes:
 
 
 def tools() -> str:
-    """The tools by which the module is made, as they name themselves."""
+    """The versions of the tools that make the module."""
     version = subprocess.run(["wasm-opt", "--version"], capture_output=True, text=True, check=False).stdout.strip()
     return f"{run(['rt', 'version']).decode().strip()}, {version}"
 

@@ -1,8 +1,8 @@
-"""The scripts of the page, which are ES modules: what each imports and exports, in order and as one script.
+"""The scripts of the page, which are ES modules: their imports and exports, in order and as one script.
 
-A page from disk cannot load modules, so each becomes a function that is called once and returns its exports. What a module
-imports stands above it, so that no module may need itself, by way of others either; and an export is never given another
-value, so that it may be taken by name.
+A page from disk cannot load modules, so each becomes a function that is called once and returns its exports. Imported
+modules come first, so there are no circular imports; and an export never gets another value, so that it may be taken by
+name.
 """
 
 import pathlib
@@ -14,15 +14,14 @@ from paging.tree import NotMade
 IMPORT = re.compile(r"^import \{(\s*\w+(?:,\s+\w+)*,?\s*)\} from '(\.\.?/(?:\w+/)?)(\w+)\.js';\n", re.M)
 EXPORT = re.compile(r"^export (?=(?:const|class|function|async function) (\w+)\b)", re.M)
 DECLARED = re.compile(r"^(?:const|let|class|function|async function) (\w+)\b", re.M)
-# What begins a line that is neither an import nor an export of these forms.
+# The beginning of a line that is neither an import nor an export of these forms.
 OTHER = re.compile(r"^(?:import|export)\b.*", re.M)
-# The object in which the exports of each module stand in the page.
+# The object with the exports of each module in the page.
 PARTS = "PESPBENCH"
 
 
 class Script(NamedTuple):
-    """A module: its name, its place below script/, the names that it imports by modules, those that it exports, and all else of
-    its text."""
+    """A module: its name, its place below script/, its imports by modules, its exports, and the rest of its text."""
 
     name: str
     place: str
@@ -40,7 +39,7 @@ def twice(names: Sequence[str]) -> List[str]:
 
 
 def read(path: pathlib.Path, folder: pathlib.Path) -> Script:
-    """The module in a file of a folder, where all that it imports is used, and is where the import says."""
+    """The module in a file of a folder; all its imports are used, and exist at the given place."""
     name, text = str(path.relative_to(folder)), path.read_text()
     found = [(source, [word.strip() for word in names.split(",") if word.strip()]) for names, _, source in IMPORT.findall(text)]
     for _, way, source in IMPORT.findall(text):
@@ -65,7 +64,7 @@ def read(path: pathlib.Path, folder: pathlib.Path) -> Script:
 
 
 def scripts(folder: pathlib.Path) -> Dict[str, Script]:
-    """All modules in a folder and below by their names, where each import is another one's export, and no two export one name."""
+    """All modules in a folder and below by their names; each import is another one's export, and no two export one name."""
     paths = sorted(folder.rglob("*.js"))
     for each in twice([path.stem for path in paths]):
         refuse(f"{each}.js", "is in more than one folder")
@@ -82,7 +81,7 @@ def scripts(folder: pathlib.Path) -> Dict[str, Script]:
 
 
 def below(found: Dict[str, Script], name: str) -> List[str]:
-    """A module and all that it imports, by way of others too, each after those that it imports."""
+    """A module and all its direct and indirect imports, each after its own imports."""
     order: List[str] = []
     open_ones: List[str] = []
 
@@ -111,7 +110,7 @@ def as_function(script: Script) -> str:
 
 
 def joined(found: Dict[str, Script], name: str, there: Set[str]) -> str:
-    """A module with all that it imports and that is not there yet, as one script; they are there then."""
+    """A module with all its imports that are not yet in the page, as one script; they are recorded."""
     start = "" if there else f"const {PARTS} = {{}};\n"
     wanted = [each for each in below(found, name) if each not in there]
     there.update(wanted)

@@ -1,4 +1,4 @@
-"""The module as a text in the page: deflated, and in digits, 5 for 4 bytes, none of which means anything in a script of a page."""
+"""The module as a text in the page: deflated, and in digits, 5 for 4 bytes, none of which has a meaning in a script of a page."""
 
 import base64
 import pathlib
@@ -8,12 +8,12 @@ import zlib
 
 from paging.tree import NotMade, run
 
-# Of Python's digits those that a page may give a meaning, and the ones that are there instead of them, as in page/module.js.
+# Those of Python's digits that have a meaning in a page, and their replacements, as in page/module.js.
 IN_PYTHON, IN_PAGE = b"$&<>`", b",.:[]"
 
 
 def deflated(module: bytes) -> bytes:
-    """The bytes of a module by deflate without a head, the same ones each time."""
+    """The bytes of a module, deflated without a header, the same ones each time."""
     if not shutil.which("zopfli"):
         raise NotMade("there is no zopfli (Debian's package zopfli)")
     with tempfile.TemporaryDirectory() as name:

@@ -12,19 +12,20 @@ from paging.packing import unpacked
 from paging.tree import VERSION, NotMade, run
 
 LINE = re.compile(r"^[ \t]*<!-- (?:(style|script|modules): (\S+)|(module|version)) -->[ \t]*$", re.M)
-# A script that runs; one of modules says which is the last of them.
+# A script that runs; for modules, with the name of the last one.
 SCRIPT = re.compile(r"<script(?: data-modules=\w+)?>(.*?)</script>", re.S)
 POLICY = re.compile(r'<meta http-equiv="Content-Security-Policy" content="([^"]*)">')
 # A comment that begins a line and ends one.
 COMMENT = re.compile(r"^[ \t]*(?://[^\n]*|/\*(?:(?!\*/).)*\*/[ \t]*)\n", re.M | re.S)
-# What would end an inline script or style early, or hide a part of it.
+# Texts that would end an inline script or style early, or hide a part of it.
 BREAKS = ["</script", "</style", "<!--"]
-# The one rule that lets nothing in or out where no other rule does.
+# The rule that forbids everything that no other rule allows.
 NOTHING = "default-src 'none'"
 
 
 def unindented(text: str) -> str:
-    """A source without the more than ten thousand blanks that begin lines, and without empty lines; no text in it may have these."""
+    """A source without the more than ten thousand blanks at the beginnings of lines, and without empty lines; no text in it may
+    have these."""
     return re.sub(r"^\s+", "", text, flags=re.M)
 
 
@@ -34,7 +35,7 @@ def short_style(text: str) -> str:
 
 
 def short_script(text: str) -> str:
-    """A script without comments and needless blanks, in shorter statements; its names stay. Raises NotMade."""
+    """A script without comments and needless blanks, in shorter statements; names are kept. Raises NotMade."""
     if not shutil.which("esbuild"):
         raise NotMade("there is no esbuild (Debian's package esbuild)")
     words = ["esbuild", "--minify-whitespace", "--minify-syntax", "--charset=utf8", "--legal-comments=none", "--log-level=warning"]
@@ -45,7 +46,7 @@ SHORT: Dict[str, Callable[[str], str]] = {"style": short_style, "script": short_
 
 
 def fitting(kind: str, name: str, text: str) -> str:
-    """A style or script of the page, which can stand inside of it."""
+    """A style or script of the page, as an inline element."""
     short = SHORT[kind](text)
     for word in BREAKS:
         if word in text.lower() or word in short.lower():
@@ -61,8 +62,8 @@ def source(folder: pathlib.Path, kind: str, name: str) -> str:
 
 
 def part(folder: pathlib.Path, found: Match[str], module: str, there: Set[str]) -> str:
-    """What stands for a line of the kind `<!-- style: FILE -->`, `<!-- script: FILE -->`, `<!-- modules: NAME -->`,
-    `<!-- module -->` or `<!-- version -->`. Modules are those of script/NAME.js that are not there yet."""
+    """The replacement of a line `<!-- style: FILE -->`, `<!-- script: FILE -->`, `<!-- modules: NAME -->`, `<!--
+    module -->` or `<!-- version -->`. Modules are those of script/NAME.js that are not yet in the page."""
     kind, name, which = found.groups()
     if which == "version":
         return f'Version <span id="version">{VERSION.read_text().strip()}</span>.'
@@ -75,12 +76,12 @@ def part(folder: pathlib.Path, found: Match[str], module: str, there: Set[str]) 
 
 
 def named(script: str) -> str:
-    """The name of an inline script in a policy."""
+    """The hash of an inline script in a policy."""
     return f"'sha256-{base64.b64encode(hashlib.sha256(script.encode()).digest()).decode()}'"
 
 
 def with_policy(text: str) -> str:
-    """The page, whose policy lets just its own scripts run, in place of any that stand in it, and asks for nothing."""
+    """The page with a policy that permits only its own scripts, instead of any policy in it, and no request."""
     policies = POLICY.findall(text)
     if len(policies) != 1 or NOTHING not in policies[0]:
         raise NotMade(f"page/index.html has no one policy with {NOTHING}")

@@ -1,4 +1,4 @@
-"""What stands where: the toolchain, and the crates below the library."""
+"""Paths: the toolchain, and the crates below the library."""
 
 import pathlib
 import re
@@ -37,13 +37,13 @@ def toolchain() -> pathlib.Path:
 
 
 def crates() -> Dict[str, List[str]]:
-    """Each crate with what it stands on, as crates.txt has them."""
+    """Each crate with its dependencies, by crates.txt."""
     rows = re.findall(r"^(\w+)(?: +\w+)*:(.*)$", (TOP / "crates.txt").read_text(), re.M)
     return {name: names.split() for name, names in rows}
 
 
 def below(name: str) -> List[str]:
-    """All crates of the repository below this one."""
+    """All crates of the repository on which this one depends."""
     known, found, left = crates(), set(), [name]
     while left:
         more = [each for each in known[left.pop()] if each in known and each not in found]

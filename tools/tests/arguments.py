@@ -14,7 +14,7 @@ def help_text(suite: Suite) -> None:
     came = run([suite.program, "--help"])["standard output"].decode()
     for option in ["--period", "--fixed", "--times", "--check", "ACTIVITIES", f"{LEAST_PERIOD} to {GREATEST_PERIOD}", "default: 60"]:
         suite.note(f"help names {option}", {"found": True}, {"found": option in came})
-    # What a person looks for: an example, the columns, the exit statuses, and where the documents are.
+    # The parts of help: an example, the columns, the exit statuses, and the documents.
     columns = ["from; to; lower; upper; weight", "event; time"]
     for word in ["commands", *columns, "exit status", "docs/formats.md", "examples"]:
         suite.holds(f"help tells of {word}", word in came.lower())

@@ -1,4 +1,4 @@
-"""Cases for `rt try --cases`, which builds the program once: their files, and what came of them."""
+"""Cases for `rt try --cases`, which builds the program once: their files, and their results."""
 
 import random
 import re
@@ -14,17 +14,17 @@ from tests.replies import TWO_REPLIES
 from tests.streams import drawn_lines
 
 STREAMS, LINES = 40, 50
-# What the toolchain says of a case on standard error: the program's own fault, where output is not compared, and its status.
+# The toolchain's message on a case on standard error: the program's own fault, unless output is compared, and its status.
 ENDED = re.compile(r"^(pespbench: .*\n)?case=(\S+) run=ended status=(\d+)(.*)$", re.M)
-# What it prints on standard output is that of such cases, each after its name.
+# Its standard output is that of such cases, each after its name.
 NAMED = re.compile(r"^== (\S+)\n", re.M)
 COMPARED = "output=expected"
-# An exit status, and what was printed, or COMPARED.
+# An exit status, and the output, or COMPARED.
 Outcome = Tuple[int, str]
 
 
 class Folder:
-    """The folder of the cases, files beside it that they name, and what each should give."""
+    """The folder of the cases, files beside it that they name, and the expected results."""
 
     def __init__(self, top: Path) -> None:
         self.top = top
@@ -42,7 +42,7 @@ class Folder:
         cases = self.top / "cases"
         (cases / name).write_bytes(given)
         (cases / f"{name}.args").write_text("".join(f"{word}\n" for word in words))
-        # Standard error is told just where output is not compared.
+        # Standard error is reported only if output is not compared.
         if not error:
             (cases / f"{name}.stdout").write_bytes(output)
         self.wanted[name] = (status, (output + error).decode() if error else COMPARED)
@@ -63,7 +63,7 @@ def write_commands(folder: Folder) -> None:
 
 
 def write_streams(folder: Folder) -> None:
-    """Drawn streams, whose replies are those of the module."""
+    """Random streams, with the module's replies."""
     draw = random.Random(5_603)
     for number in range(STREAMS):
         words = ["--period", str(draw.randint(2, 12))]
@@ -72,7 +72,7 @@ def write_streams(folder: Folder) -> None:
 
 
 def write_cases(top: Path) -> Tuple[Dict[str, Outcome], List[str]]:
-    """What each case should give, and the words that name the files beside the cases."""
+    """The expected result of each case, and the words that name the files beside the cases."""
     folder = Folder(top)
     write_rows(folder)
     write_commands(folder)
@@ -81,7 +81,7 @@ def write_cases(top: Path) -> Tuple[Dict[str, Outcome], List[str]]:
 
 
 def outcomes(output: str, errors: str) -> Dict[str, Outcome]:
-    """The status of each case that ended, with what it printed, or with COMPARED."""
+    """The status of each case that ended, with its output, or with COMPARED."""
     parts, came = NAMED.split(output), {}
     printed = dict(zip(parts[1::2], parts[2::2]))
     for fault, name, status, rest in ENDED.findall(errors):
@@ -90,7 +90,7 @@ def outcomes(output: str, errors: str) -> Dict[str, Outcome]:
 
 
 def told(output: str, errors: str, wanted: Mapping[str, Outcome]) -> List[str]:
-    """What is wrong in what the toolchain said of the cases: a line for each that gave something else, or did not run."""
+    """The faults in the toolchain's output on the cases: a line for each with another result, or that did not run."""
     came, wrong = outcomes(output, errors), []
     for name, what in wanted.items():
         if came.get(name) != what:

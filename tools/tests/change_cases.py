@@ -2,7 +2,7 @@
 
 OTHERS = "2: 0 1 2 3 6 7 8 9"
 
-# Of each: the edit, and the events with their residues that come back.
+# For each: the edit, and the events with their restored residues.
 RESTORED = [
     [("fix 1 0", ""), ("fix 1 0", ""), ("fix 1 1", "1: 1 / 2: 6 7"), ("weight 1 3", "")],
     [

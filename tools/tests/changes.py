@@ -1,7 +1,7 @@
-"""What an accepted edit leaves: whether a known optimum stays known, and which pairs come back into the domains.
+"""The effect of an accepted edit: whether a known optimum stays known, and which pairs are restored to the domains.
 
-Each function is given the models before and after the edit, the edit's name and its numbers, as tests/parsing.py
-reads them. A pair is an event and a residue of the period.
+Each function receives the models before and after the edit, the edit's name and its numbers, as parsed by
+tests/parsing.py. A pair is an event and a residue of the period.
 """
 
 from typing import Sequence, Set, Tuple
@@ -12,7 +12,7 @@ OF_WINDOWS = ["fix", "window", "unfix"]
 
 
 def admits_anew(before: Network, after: Network, event: int) -> bool:
-    """Whether the event may stand at a residue at which it might not before."""
+    """Whether the event may be at a residue at which it could not be before."""
     residues = range(before.period)
     return any(after.admits(event, residue) and not before.admits(event, residue) for residue in residues)
 
@@ -24,7 +24,7 @@ def is_looser(before: Network, after: Network, activity: int) -> bool:
 
 
 def opens(before: Network, after: Network, name: str, numbers: Sequence[int]) -> bool:
-    """Whether there may be a timetable that meets everything where there was none."""
+    """Whether there may be a timetable that meets everything if there was none."""
     if name in OF_WINDOWS:
         return admits_anew(before, after, numbers[0])
     if name == "span":
@@ -43,7 +43,7 @@ def cheapens(before: Network, after: Network, name: str, numbers: Sequence[int])
 
 
 def keeps(before: Network, after: Network, name: str, numbers: Sequence[int]) -> bool:
-    """Whether the optimum, or that there is none, stays known where it was."""
+    """Whether the optimum, or that there is none, stays known if it was."""
     best = before.best()
     if best is None:
         return not opens(before, after, name, numbers)
@@ -52,7 +52,7 @@ def keeps(before: Network, after: Network, name: str, numbers: Sequence[int]) ->
 
 
 def starts(before: Network, after: Network, name: str, numbers: Sequence[int]) -> Sequence[int]:
-    """The events at which chains of restored pairs begin; an edit that has none restores nothing."""
+    """The events at which chains of restored pairs begin; an edit without any restores nothing."""
     if name in OF_WINDOWS:
         return [numbers[0]] if admits_anew(before, after, numbers[0]) else []
     ends = before.activities[numbers[0]][:2] if name in ("span", "drop activity", "ends") else []
@@ -60,7 +60,7 @@ def starts(before: Network, after: Network, name: str, numbers: Sequence[int]) -
 
 
 def restored(before: Network, after: Network, name: str, numbers: Sequence[int]) -> Set[Tuple[int, int]]:
-    """The pairs that an edit puts back before others are taken out again.
+    """The pairs that an edit restores before others are removed again.
 
     They are reached from the starts, over activities other than the edited one, and all are outside the domains before
     the edit and in their events' windows after it.

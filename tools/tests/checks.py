@@ -1,4 +1,4 @@
-"""Replies to checks, which the rules compute too."""
+"""Replies to checks, compared with the rules."""
 
 import random
 from typing import Dict, Optional, Sequence
@@ -62,7 +62,7 @@ def limit_checks(suite: Suite) -> None:
         fixed = {greatest: -1_000_000_000, 0: 1_000_000_000}
         check_case(suite, f"values at their limits, period {period}", period, corner, fixed, times)
     weight = 1_000_000_000
-    # Each activity has the greatest slack that there is, and no period with as many as it may have comes to more.
+    # Each activity has the greatest slack, and at no period do as many as are allowed cost more.
     period = 1_433
     most = [(number, 1, 1, 1, 1, weight) for number in range(most_activities(period))]
     check_case(suite, "the greatest cost", period, most, {1: 1}, {1: 0})

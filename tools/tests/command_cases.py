@@ -1,11 +1,11 @@
-"""Streams of commands with what comes out, for tests/commands.py. ` / ` stands for a line end."""
+"""Streams of commands with their output, for tests/commands.py. ` / ` represents a line end."""
 
 NOTHING = ""
 TWO = "1; 1; 2; 3; 5; 2 / 2; 2; 1; 4; 6; 1"
 THREE = "1; 1; 2; 1; 2; 0 / 2; 1; 3; 1; 2; 0 / 3; 2; 3; 1; 2; 0"
 
 STOPPED = "1 0 / 2 1 / 3 9"
-# They cost nothing and admit what the first activity of their case does, and so many keep a search from its end for some steps.
+# They cost nothing and admit the same as the first activity of their case, and so many delay a search's end for some steps.
 COPIES = " / ".join(f"{number}; 3; 2; 2; 8; 0" for number in range(4, 1006))
 TEN = "0 1 2 3 4 5 6 7 8 9"
 FULL = f"domains 2 / 1: {TEN} / 2: {TEN}"
@@ -16,7 +16,7 @@ SCRIPT = (
 OF_THREE = "optimum 0 3 / 1 0 / 2 1 / 3 2"
 OF_THREE_WEIGHTED = "optimum 1 3 / 1 0 / 2 1 / 3 2"
 
-# Of each: its name, the period, the activities, the lines, and the replies.
+# For each: its name, the period, the activities, the lines, and the replies.
 CASES = [
     (
         "empty instance",
@@ -306,7 +306,7 @@ CASES = [
     ),
 ]
 
-# Refusals of lines at period 10 over TWO, with event 3 added and event 1 fixed; the first that holds is told.
+# Refusals of lines at period 10 over TWO, with event 3 added and event 1 fixed; the first that applies is reported.
 REFUSALS = {
     "add event 1": "refused 1 event 1 exists",
     "drop event 9": "refused 2 no event 9",
@@ -345,7 +345,7 @@ REFUSALS = {
     "drop event 0999999999": "refused 2 no event 999999999",
 }
 
-# Lines that are no command, and those that are none by their form alone.
+# Lines that are not commands, and those that are invalid by their form alone.
 FAULTS = {
     "add": "fault unknown command",
     "drop": "fault unknown command",

@@ -1,4 +1,4 @@
-"""Commands by the table, and the model beside them."""
+"""Commands by the table, compared with the model."""
 
 import copy
 from typing import Any, Set, Tuple
@@ -14,7 +14,7 @@ from tests.rules import read_activities
 
 
 def text_of(lines: str) -> bytes:
-    """The bytes of lines that stand with ` / ` between them; a letter stands for the byte of its number."""
+    """The bytes of lines that are separated by ` / `; a letter represents the byte of its number."""
     joined = "".join(f"{line}\n" for line in lines.split(" / ")) if lines else ""
     return joined.encode("latin-1" if joined.isprintable() or "\xff" in joined else "utf-8")
 
@@ -36,7 +36,7 @@ def command_cases(suite: Suite) -> None:
 
 
 def model_cases(suite: Suite) -> None:
-    """The model by the same table; a `try` is asked whether it may be answered so."""
+    """The model by the same table; for a `try`, whether the reply is legal."""
     for name, period, activities, lines, replies in CASES:
         bench, rest, wrong = model_of(period, text_of(activities)), replies.split(" / "), []
         for line in lines.split(" / "):
@@ -50,13 +50,13 @@ def model_cases(suite: Suite) -> None:
 
 
 def pairs_of(rows: str) -> Set[Tuple[int, int]]:
-    """The pairs of rows as the tables write them: ` / ` stands between events."""
+    """The pairs of rows as the tables write them: ` / ` separates events."""
     events = [row.split(": ") for row in rows.split(" / ") if row]
     return {(int(event), int(residue)) for event, residues in events for residue in residues.split()}
 
 
 def model_restores(suite: Suite) -> None:
-    """The model by a table of edits with what each restores."""
+    """The model by a table of edits with their restored pairs."""
     for edits in RESTORED:
         bench = model_of(10, TWO_FILE)
         for line, rows in edits:
@@ -82,7 +82,7 @@ def script_of_two() -> str:
 
 
 def bytes_of(line: str) -> bytes:
-    """The bytes of a line of the tables: one byte for each letter, but for the byte order mark."""
+    """The bytes of a line of the tables: one byte for each letter, except for the byte order mark."""
     return line.encode("utf-8" if "\ufeff" in line else "latin-1")
 
 
@@ -100,13 +100,13 @@ def faulty_lines(suite: Suite) -> None:
 
 
 def files_and_commands(suite: Suite) -> None:
-    """What the files open: fixed times, times modulo the period, and times of other events, which are ignored."""
+    """The network of the files: fixed times, times modulo the period, and times of other events, which are ignored."""
     activities = suite.file("two", TWO_FILE)
     times = suite.file("times", b"1; -1\n7; 23\n")
     words = ["--period", "10", "--times", times, activities]
     suite.case("times of an event outside", words, given=b"cost\n", output=b"refused 11 event 2 has no time\n")
     asked = b"add event 7\ncost\ntime 2 3\ncost\ntime 7 0\ncost\ntensions\n"
-    # Event 1 stands at 9 and event 2 at 3: slacks 1 and 2, cost 2 * 1 + 1 * 2 = 4.
+    # Event 1 is at 9 and event 2 at 3: slacks 1 and 2, cost 2 * 1 + 1 * 2 = 4.
     output = "ok / refused 11 event 2 has no time / ok / refused 11 event 7 has no time / ok / cost 4"
     output += " / tensions 2 / 1 4 1 / 2 6 2"
     suite.case("an event whose time was ignored", words, given=asked, output=text_of(output))

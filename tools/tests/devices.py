@@ -1,4 +1,4 @@
-"""Standard output that fails, standard input that cannot be read, a reader that comes late, and want of memory."""
+"""Standard output that fails, standard input that cannot be read, a late reader, and too little memory."""
 
 import os
 import resource
@@ -54,12 +54,12 @@ def failing_output(suite: Suite) -> None:
         suite.case("a fault, standard error full", ["no such file"], status=1, cwd=suite.folder, stderr=full)
         how: Dict[str, Any] = {"cwd": suite.folder, "stdout": full}
         suite.case("nothing written after a fault", ["no such file"], status=1, error=SOME, **how)
-        # Nothing is written where no line has a reply, so nothing fails.
+        # Nothing is written if no line has a reply, so nothing fails.
         suite.case("lines without a reply: a full device", [], stdout=full, given=b"\n# a comment\n \t\r\n")
 
 
 def closing_reader(suite: Suite) -> None:
-    """A reader that takes the first replies and goes."""
+    """A reader that reads the first replies and ends."""
     for number in range(20):
         began = subprocess.Popen([suite.program], stdin=subprocess.PIPE, stdout=subprocess.PIPE, stderr=subprocess.PIPE)
         assert began.stdin is not None and began.stdout is not None and began.stderr is not None
@@ -127,13 +127,13 @@ def late_reader(suite: Suite) -> None:
 
 
 def write_whole(stream: IO[bytes], data: bytes) -> None:
-    """Writes all, and closes what it is written to."""
+    """Writes all, and closes its output."""
     stream.write(data)
     stream.close()
 
 
 def narrow(megabytes: int) -> Callable[[], None]:
-    """What leaves a program so much memory, its own code among it."""
+    """The limit that leaves a program this much memory, including its own code."""
     return lambda: resource.setrlimit(resource.RLIMIT_AS, (megabytes << 20, megabytes << 20))
 
 
@@ -145,7 +145,7 @@ def want_of_memory(suite: Suite) -> None:
     for name in NAMES:
         suite.check(f"{name}: no memory for the file", words_for(name, path), **wanted)
     suite.check("activities: no memory for a pipe", ["/dev/stdin"], given=spaces, **wanted)
-    # There is memory for the file, and none for a record of its length.
+    # There is memory for the file, but not for a record of its length.
     for name in NAMES:
         wanted = {"status": 1, "error": record(name, 1, "out of memory"), "preexec_fn": narrow(88)}
         suite.check(f"{name}: no memory for a record", words_for(name, path), **wanted)
@@ -156,7 +156,7 @@ def want_of_memory(suite: Suite) -> None:
 
 
 def memory_of_commands(suite: Suite) -> None:
-    """The least memory that serves three commands is looked for; with a little less, the greatest reply is refused."""
+    """Finds the least memory that is enough for three commands; with slightly less, the greatest reply is refused."""
     loops = rows_of((event, event, event, 0, FULL_PERIOD - 1, 0) for event in range(MOST_EVENTS))
     words = [suite.program, "--period", str(FULL_PERIOD), suite.file("loops", loops)]
     given = b"cost\n# a comment\ndomains\ncost\n"

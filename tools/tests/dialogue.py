@@ -1,4 +1,4 @@
-"""Replies one by one: each is there before the next line is sent, through two pipes and at a terminal."""
+"""Replies one by one: each arrives before the next line is sent, through two pipes and at a terminal."""
 
 import os
 import pty
@@ -19,7 +19,7 @@ NOTHING = "nothing in time"
 
 
 class Dialogue:
-    """A running program, which is sent bytes and of which whole lines are read, each within a time."""
+    """A running program, which receives bytes and whose complete lines are read, each within a time."""
 
     def __init__(self, words: Sequence[object]) -> None:
         self.process = subprocess.Popen(list(map(str, words)), stdin=subprocess.PIPE, stdout=subprocess.PIPE, bufsize=0)
@@ -40,7 +40,7 @@ class Dialogue:
             ready, _, _ = select.select([self.told], [], [], max(0, until - time.monotonic()))
             more = os.read(self.told.fileno(), 65_536) if ready else b""
             if not more:
-                # One silence is waited for, and no other.
+                # Only one silence is awaited.
                 self.patience = 0
                 return NOTHING
             self.held += more
@@ -110,7 +110,7 @@ def two_lines_in_one_piece(suite: Suite) -> None:
 
 
 def drawn_dialogue(suite: Suite) -> None:
-    """A few hundred drawn lines, each with its whole reply before the next is sent."""
+    """A few hundred random lines, each with its complete reply before the next is sent."""
     draw = random.Random(1830)
     bench = model.Model(7)
     with Dialogue([suite.program, "--period", "7"]) as talk:
@@ -129,7 +129,7 @@ def drawn_dialogue(suite: Suite) -> None:
 
 @within(240)
 def long_dialogue(suite: Suite) -> None:
-    """Thousands of replies one by one, as an optimiser asks for them."""
+    """Thousands of replies one by one, as an optimiser requests them."""
     with Dialogue([suite.program]) as talk:
         talk.send(b"add event 1\n")
         right = talk.line() == "ok"

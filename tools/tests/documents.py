@@ -1,4 +1,4 @@
-"""The sessions that documents show, played."""
+"""The sessions in documents, replayed."""
 
 import os
 import re
@@ -11,7 +11,7 @@ from tests.parsing import COMMANDS
 
 
 class Shown:
-    """A command of a document, the lines that are typed into it, and those that it prints."""
+    """A command of a document, its typed lines, and the printed ones."""
 
     def __init__(self, command: str) -> None:
         self.command = command
@@ -19,14 +19,14 @@ class Shown:
         self.printed: List[str] = []
 
     def add(self, line: str) -> None:
-        """Takes the next line of the document; one that begins with `> ` is typed."""
+        """Adds the next line of the document; one that begins with `> ` is typed."""
         if line.startswith("> "):
             self.typed.append((len(self.printed), line[2:]))
         else:
             self.printed.append(line)
 
     def script(self) -> str:
-        """The command as a shell is given it."""
+        """The command for a shell."""
         command = self.command.replace("tools/pespbench", "pespbench")
         typed = "".join(f"{line}\n" for _, line in self.typed)
         return f"{command} <<'END'\n{typed}END" if typed else command
@@ -35,13 +35,13 @@ class Shown:
         return "".join(f"{line}\n" for line in self.printed)
 
     def shows_whole_replies(self) -> bool:
-        """Whether below each typed line stands its own reply: those of the lines before are whole."""
+        """Whether its own reply is below each typed line: those of the lines before are complete."""
         places = [place for place, _ in self.typed]
         return set(places) <= set(ends_of_replies(self.printed))
 
 
 def ends_of_replies(lines: Sequence[str]) -> List[int]:
-    """The places between replies: a header tells how many lines follow it."""
+    """The places between replies: a header says how many lines follow it."""
     place, ends = 0, [0]
     while place < len(lines):
         words = lines[place].split()
@@ -53,7 +53,7 @@ def ends_of_replies(lines: Sequence[str]) -> List[int]:
 
 
 def sessions(path: Path) -> Iterator[List[Shown]]:
-    """The blocks of a document that show a session: lists of a command and the lines that it prints."""
+    """The blocks of a document that show a session: lists of a command and its output."""
     text = path.read_text()
     if path.suffix == ".md":
         blocks = re.findall(r"^```console\n(.*?)^```$", text, re.M | re.S)
@@ -72,7 +72,7 @@ def sessions(path: Path) -> Iterator[List[Shown]]:
 
 
 def play(suite: Suite, session: Sequence[Shown]) -> List[str]:
-    """What a shell at the top of the repository prints for each command of a session."""
+    """The output of a shell at the top of the repository for each command of a session."""
     mark = "-- next command --"
     script = ["exec 2>&1", "last=0"]
     for shown in session:
@@ -89,7 +89,7 @@ def shown_in() -> List[Path]:
 
 
 def of_what_is_built(path: Path) -> bool:
-    """Whether a document's sessions want the built program's own memory, or the library in process."""
+    """Whether a document's sessions need the built program's own memory, or the library in process."""
     return path.name == "SECURITY.md" or path.parent.name == "embedded"
 
 
@@ -117,7 +117,7 @@ def play_all(suite: Suite, paths: Sequence[Path]) -> None:
             suite.holds(f"{path.relative_to(TOP)}, session {number} has each reply below its line", whole)
 
 
-# What the documents have to name: the faults of files, refusals, faults of lines, and what ends a run.
+# The texts that the documents must name: faults of files, refusals, faults of lines, and ends of a run.
 TEXTS = [FIELDS, bad("k"), out("k"), FRACTION, CROSSED, TWICE, EVENT_TWICE, ABSENT, EVENTS, ACTIVITIES, "out of memory"]
 TEXTS += [f"refused {number} " for number in (1, 2, 3, 4, 5, 6, 7, 8, 9, 11, 12, 13)]
 TEXTS += ["is used by activity", "is not fixed", "has no time", "refused 12 infeasible", "stopped none"]
@@ -143,9 +143,9 @@ def shown_scripts(suite: Suite) -> None:
 
 
 def checks_say_so(suite: Suite) -> None:
-    """A command line that is shown without commands means a check, and says `--check`."""
+    """A command line without commands in a document means a check, and says `--check`."""
     for path in shown_in():
-        # The callers of the library in process are programs of their own, and have no such word.
+        # The callers of the library in process are programs of their own, and have no such option.
         for session in sessions(path) if path.parent.name != "embedded" else []:
             for shown in session:
                 is_check = any(line.startswith(("tensions ", "pespbench: ")) for line in shown.printed)

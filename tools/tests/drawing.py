@@ -63,7 +63,7 @@ def session_script(suite: Suite) -> None:
 
 
 def search_script(suite: Suite) -> None:
-    """The search ends with the optimum, as `optimum` tells it."""
+    """The search ends with the optimum, as `optimum` returns it."""
     came = run([*PYTHON, TOP / "examples/search.py", suite.program], cwd=TOP, env=PACKAGE)
     ends = b"".join(came["standard output"].splitlines(keepends=True)[-2:])
     suite.note("what search.py tells", {"status": 0, "standard error": b"", "last lines": BEST}, {**came, "last lines": ends})
@@ -85,7 +85,7 @@ def pictures(suite: Suite) -> None:
 
 
 def outside(picture: bytes) -> List[str]:
-    """What a page refers to outside itself: nothing but shapes and words may stand in it."""
+    """References of a page to anything outside itself: it may contain only shapes and words."""
     allowed = {"svg", "rect", "text", "circle", "path"}
     elements = ElementTree.fromstring(picture).iter()
     return sorted({element.tag.removeprefix("{http://www.w3.org/2000/svg}") for element in elements} - allowed)
@@ -100,7 +100,7 @@ def hostile_words(draw: random.Random) -> str:
 
 
 def hostile_replies(draw: random.Random) -> str:
-    """Replies with a few words exchanged, or lines of words that stand in replies."""
+    """Replies with a few words exchanged, or lines of words from replies."""
     text = (TOP / "examples/hourly-line-asked/expected").read_text()
     lines = text.splitlines()
     for _ in range(draw.randrange(1, 4)):
@@ -130,7 +130,7 @@ def hostile_pages(suite: Suite) -> None:
 
 
 def windows(suite: Suite) -> None:
-    """A window is a frame over its times, in two where it goes on at the start of the period, and is told by a note."""
+    """A window is a frame over its times, in two parts if it wraps around the period, and has a note."""
     lines = ["# period 10 lines 4", "add event 1", "add event 2", "window 1 8 4", "window 2 3 10"]
     came = run([*DRAW], given="\n".join(lines).encode(), env=PACKAGE)
     page = ElementTree.fromstring(came["standard output"])

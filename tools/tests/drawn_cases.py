@@ -1,4 +1,4 @@
-"""The drawn cases of the definitions: what tools/draw_cases makes is what the prover is given."""
+"""The random cases of the definitions: the prover's files are those that tools/draw_cases makes."""
 
 import re
 import sys

@@ -1,4 +1,4 @@
-"""Files for tools/test_program that are drawn at random, from numbers that are the same in each run."""
+"""Random files for tools/test_program, from numbers that are the same in each run."""
 
 import random
 from typing import List, Sequence, Tuple
@@ -9,7 +9,7 @@ BYTES = [bytes([byte]) for byte in b';,"\n\r #-+.029xA\0'] + [MARK, b"\xff", b";
 
 
 class Form:
-    """A drawn way to write rows, which stands for these rows alone."""
+    """A random way to write rows, which represents exactly these rows."""
 
     def __init__(self, draw: random.Random) -> None:
         self.draw = draw
@@ -47,7 +47,7 @@ class Form:
 
 
 def drawn(draw: random.Random, count: int, events: int) -> Tuple[List[Row], Times, Times]:
-    """Activities with distinct numbers, and a time and perhaps a fixed time for each event that is drawn."""
+    """Activities with distinct numbers, and a time and perhaps a fixed time for each random event."""
     numbers = draw.sample(range(1_000_000_000), count)
     names = draw.sample(range(1_000_000_000), events)
     activities: List[Row] = []
@@ -65,7 +65,7 @@ def drawn(draw: random.Random, count: int, events: int) -> Tuple[List[Row], Time
 
 
 def damaged(draw: random.Random, text: bytes) -> bytes:
-    """A text with some bytes put in, taken out or exchanged, with a part of it twice, or without its end."""
+    """A text with some bytes inserted, removed or exchanged, with a part of it repeated, or without its end."""
     for _ in range(draw.randint(1, 2)):
         place, part = draw.randrange(len(text) + 1), draw.randrange(len(text) + 1)
         kept = draw.choice([place, place, place + 1, place + 1, place + draw.randrange(9), len(text)])

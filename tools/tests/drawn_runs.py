@@ -1,4 +1,4 @@
-"""Whole runs that are drawn: a period, three files and commands; and what the program gives for them."""
+"""Random runs: a period, three files and commands; and the program's results."""
 
 import random
 from typing import List, NamedTuple, Sequence, Tuple, TypedDict
@@ -9,13 +9,13 @@ from tests.rules import Row, Times
 from tests.streams import drawn_lines, searches
 
 LINES = 25
-# So many periods have files whose rows the commands name, and whose optima are soon found.
+# The periods with files whose rows the commands name, and whose optima are soon found.
 GREATEST_SHORT = 12
 LONG = [60, 120, 255, 256, 1440]
 
 
 class Asked(NamedTuple):
-    """What a run is given."""
+    """The input of a run."""
 
     period: int
     activities: bytes
@@ -25,7 +25,7 @@ class Asked(NamedTuple):
 
 
 class Told(TypedDict):
-    """What it gives."""
+    """Its output."""
 
     replies: bytes
     fault: str
@@ -45,7 +45,7 @@ def short_rows(draw: random.Random, period: int) -> Tuple[List[Row], Times, Time
 
 
 def drawn_run(draw: random.Random) -> Asked:
-    """A run; most often its files can be read."""
+    """A run; usually its files can be read."""
     is_short = draw.randrange(4) > 0
     period = draw.randint(2, GREATEST_SHORT) if is_short else draw.choice(LONG)
     activities, fixed, times = short_rows(draw, period) if is_short else drawn(draw, draw.randint(1, 6), draw.randint(1, 6))
@@ -59,7 +59,7 @@ def drawn_run(draw: random.Random) -> Asked:
 
 
 def told_by(suite: Suite, asked: Asked) -> Told:
-    """What the program gives: its replies, and the text of its fault."""
+    """The program's result: its replies, and the text of its fault."""
     names = ["activities", "fixed", "times"]
     activities, fixed, times = (suite.file(f"given {name}", getattr(asked, name)) for name in names)
     words = [suite.program, "--period", str(asked.period), "--fixed", fixed, "--times", times, activities]

@@ -1,7 +1,7 @@
-"""What both keepers have to tell when they are driven, drawn lines that drive them, and what of their lines is wrong.
+"""The expected output of both keepers, random lines that drive them, and the faults of their output.
 
-The lines are those that the program crates/pesp_tests_keepers takes: edits as commands, `push fix E T`, which pushes the
-pair of an event and a time, and `pop`. A model follows them, by the plain rules of tests/network.py.
+The lines are those of the program crates/pesp_tests_keepers: edits as commands, `push fix E T`, which pushes the pair of
+an event and a time, and `pop`. A model follows them, by the plain rules of tests/network.py.
 """
 
 import copy
@@ -13,17 +13,17 @@ from tests.changes import restored
 from tests.network import Network, Refused
 from tests.parsing import command_of
 
-# The numbers of events and activities of which the program tells something are below this.
+# The numbers of events and activities on which the program reports are below this.
 NUMBERS = 8
 
 # An event and a residue of the period.
 Pair = Tuple[int, int]
-# The residues that each event can take.
+# The domain of each event.
 Rows = Dict[int, Set[int]]
 
 
 class Wanted(NamedTuple):
-    """What is to be told after a line: most of it word for word, and what the last accepted edit took."""
+    """The expected output after a line: most of it literally, and the cost of the last accepted edit."""
 
     lines: List[str]
     restored: Set[Pair]
@@ -32,7 +32,7 @@ class Wanted(NamedTuple):
 
 
 class Kept:
-    """A network, the pushed times by event, the last push last, and what the last accepted edit took."""
+    """A network, the pushed times by event, the last push last, and the cost of the last accepted edit."""
 
     def __init__(self, period: int) -> None:
         self.network = Network(period)
@@ -42,7 +42,7 @@ class Kept:
         self.most_probes = 0
 
     def follow(self, line: str) -> Wanted:
-        """Does what the line asks for. What the program is to tell then."""
+        """Executes the line, and returns the program's expected output."""
         rows = [self.answer(line), *self.rows()]
         lines = ["plain", *rows, "counted", *rows, *self.counts()]
         return Wanted(lines, self.restored, self.removed, self.most_probes)
@@ -71,12 +71,12 @@ class Kept:
         return "ok"
 
     def rows(self) -> List[str]:
-        """A line for each number of an event: how many residues its row has, and a mark for each residue."""
+        """A line for each number of an event: the number of residues in its row, and a mark for each residue."""
         rows = self.network.rows(self.pushed)
         return [f"row {number} {row_text(rows.get(number), self.network.period)}" for number in range(NUMBERS)]
 
     def counts(self) -> List[str]:
-        """A line for each number of an activity: for each residue at both ends, how many at the other go with it."""
+        """A line for each number of an activity: for each residue at both ends, the number of its partners at the other."""
         rows = self.network.rows(self.pushed)
         return [f"counts {number}{self.counts_of(number, rows)}" for number in range(NUMBERS)]
 
@@ -102,29 +102,29 @@ def row_text(row: Optional[Set[int]], period: int) -> str:
 
 
 def degree(network: Network, event: int) -> int:
-    """How many ends of activities are at the event."""
+    """The number of ends of activities at the event."""
     return sum((row[0] == event) + (row[1] == event) for row in network.activities.values())
 
 
 def most_probes(before: Network, after: Network, pairs: Sequence[Pair]) -> int:
-    """The most looks at one residue along one activity that an edit may take which moves these pairs."""
+    """The greatest number of probes of an edit that moves these pairs."""
     period = before.period
     weight = sum(max(degree(before, event), degree(after, event)) + 1 for event, _ in pairs)
     return 4 * period * period + 2 * period * weight
 
 
-# The lines of the program, and what is wrong with them
+# The lines of the program, and their faults
 
 
 def right_lines(wanted: Wanted) -> List[str]:
-    """What a program tells that takes as many probes as it may."""
+    """The output of a program that needs the greatest number of probes."""
     pairs = "".join(f" {event}:{residue}" for event, residue in sorted(wanted.restored))
     work = f"work {len(wanted.restored)} {wanted.removed} {wanted.most_probes}"
     return [*wanted.lines, f"restored{pairs}", work]
 
 
 def damaged(draw: random.Random, lines: List[str]) -> List[str]:
-    """The lines with one number, one more, or one mark of them changed, or a line left out."""
+    """The lines with one number, one more, or one mark of them changed, or a line omitted."""
     place = draw.randrange(len(lines))
     parts = list(re.finditer(r"\d+|[#.-]", lines[place]))
     if not parts or draw.randrange(10) == 0:
@@ -135,7 +135,7 @@ def damaged(draw: random.Random, lines: List[str]) -> List[str]:
 
 
 def fault(wanted: Wanted, lines: List[str]) -> Optional[str]:
-    """What is wrong with the lines after one line of input; None where nothing is."""
+    """The fault of the lines after one line of input; None if there is none."""
     for place, line in enumerate(wanted.lines):
         came = lines[place] if place < len(lines) else "nothing"
         if came != line:
@@ -144,7 +144,7 @@ def fault(wanted: Wanted, lines: List[str]) -> Optional[str]:
 
 
 def fault_of_work(wanted: Wanted, lines: List[str]) -> Optional[str]:
-    """What is wrong with the restored pairs, each of which is told once, and with the work of the last edit."""
+    """The fault of the restored pairs, each of which is reported once, and of the work of the last edit."""
     if [line.split()[0] for line in lines] != ["restored", "work"]:
         return f"a line on restored pairs and one on work are wanted, and these came: {lines}"
     told = [tuple(map(int, pair.split(":"))) for pair in lines[0].split()[1:]]
@@ -158,11 +158,11 @@ def fault_of_work(wanted: Wanted, lines: List[str]) -> Optional[str]:
     return None
 
 
-# Drawn lines
+# Random lines
 
 
 def drawn_edit(draw: random.Random, period: int) -> str:
-    """An edit of few events and activities, most of which are there."""
+    """An edit of few events and activities, most of which exist."""
     event, activity = draw.randint(0, 5), draw.randint(0, 6)
     ends = [draw.randint(1, 5), draw.randint(1, 5)]
     lower = draw.randint(-period, period)
@@ -185,7 +185,7 @@ def drawn_edit(draw: random.Random, period: int) -> str:
 
 
 def drawn_line(draw: random.Random, kept: Kept) -> str:
-    """A line that both keepers can follow: no edit where something is pushed, and no event twice."""
+    """A line that both keepers can follow: no edit while something is pushed, and no event twice."""
     free = sorted(kept.network.events - kept.pushed.keys())
     if kept.pushed and (not free or draw.randrange(3) == 0):
         return "pop"
@@ -195,7 +195,7 @@ def drawn_line(draw: random.Random, kept: Kept) -> str:
 
 
 def network_lines(draw: random.Random, period: int) -> List[str]:
-    """Events and activities with which most streams begin, so that later edits have something to change."""
+    """Events and activities with which most streams begin, so that later edits have an effect."""
     lines = [f"add event {event}" for event in range(1, draw.randint(2, 6))]
     edits = [drawn_edit(draw, period) for _ in range(40)]
     return [*lines, *[edit for edit in edits if edit.startswith("add activity")][:6]]

@@ -1,5 +1,5 @@
-"""The library in process: its callers in C, Rust and Python give what the program gives, and the memory that it is lent
-is used as embedded/pespbench.h says."""
+"""The library in process: its callers in C, Rust and Python return the program's bytes, and their memory is used as
+embedded/pespbench.h documents."""
 
 import ctypes
 import importlib.util
@@ -35,7 +35,7 @@ def made(suite: Suite, name: str, words: Sequence[object]) -> bool:
 
 
 def callers(suite: Suite) -> Dict[str, List[object]]:
-    """The commands that answer as the program does, by what they are written in."""
+    """The commands that behave like the program, by their language."""
     folder, compiler, rustc = suite.folder, shutil.which("gcc") or shutil.which("cc"), shutil.which("rustc")
     suite.holds(f"there is {LIBRARY.relative_to(TOP)}, which tools/library makes", LIBRARY.exists())
     if not (compiler and LIBRARY.exists()):
@@ -68,7 +68,7 @@ def shared(suite: Suite) -> Path:
 
 
 def shared_library(suite: Suite) -> Optional[Path]:
-    """The library as a shared one, made of that which tools/library has built; None where that or a compiler is not there."""
+    """The library as a shared one, made from that of tools/library; None if that or a compiler is missing."""
     compiler, heap = shutil.which("gcc") or shutil.which("cc"), suite.folder / "heap.o"
     if not (compiler and LIBRARY.exists()):
         return None
@@ -92,7 +92,7 @@ def asked_by(words: Sequence[str]) -> List[str]:
 
 @within(480)
 def embedded(suite: Suite) -> None:
-    """The stories of examples/ that have commands, and drawn runs."""
+    """The stories of examples/ that have commands, and random runs."""
     made_of = callers(suite)
     refusals(suite, made_of)
     for language, words in made_of.items():
@@ -121,8 +121,8 @@ PERIODS = ["65546", "65535", "10x", "x10", "", " 10", "10 ", "-5", "0", "1", "2"
 
 
 def odd_runs(suite: Suite, has_longest: bool) -> Iterator[Tuple[str, List[str], Dict[str, Any]]]:
-    """Titles, and words PERIOD ACTIVITIES FIXED TIMES with what goes in and out, at which a caller is easily other than the program.
-    Where it has the longest, those are files of 64 MiB too, which are read."""
+    """Titles, and words PERIOD ACTIVITIES FIXED TIMES with input and output, at which a caller could easily differ from the
+    program. With the longest, these include files of 64 MiB, which are read."""
     folder, two = str(suite.folder), str(suite.file("two", TWO))
     crossed, lines = str(suite.file("crossed", b"1; 1; 2; 5; 3; 2\n")), b"cost\n"
     for period in PERIODS:
@@ -145,7 +145,7 @@ def odd_runs(suite: Suite, has_longest: bool) -> Iterator[Tuple[str, List[str], 
     writer = closed_pipe()
     yield "a reader that has gone", ["10", "-", "-", "-"], {"given": lines, "stdout": writer}
     os.close(writer)
-    # Nothing can be read at its first byte. A folder would do, but at that Python itself ends.
+    # Nothing can be read at its first byte. A folder would do, but Python itself ends with one.
     with open("/proc/self/mem", "rb", buffering=0) as memory:
         yield "commands that cannot be read", ["10", two, "-", "-"], {"stdin": memory}
 
@@ -186,14 +186,14 @@ def drawn_runs(suite: Suite, module: ModuleType, call: Call) -> None:
 
 
 def into_room(module: ModuleType, call: Call, room: bytes, period: int, commands: bytes) -> Tuple[bytes, Dict[str, int]]:
-    """What a room of such bytes holds after a call, and what is told."""
+    """The contents of a buffer after a call, and the report."""
     out, told = ctypes.create_string_buffer(room, len(room) + 1), module.Told(9, 9, 9, 9, 9)
     call(period, TWO, len(TWO), b"", 0, b"", 0, commands, len(commands), out, len(room), ctypes.byref(told))
     return out.raw[: len(room)], {name: getattr(told, name) for name, _ in module.Told._fields_}
 
 
 def rooms(suite: Suite, module: ModuleType, call: Call) -> None:
-    """The replies stand in front of the room, and after them is what was there."""
+    """The replies are at the start of the buffer, and the rest of it is unchanged."""
     replies = b"ok\nok\n"
     told = {"length": len(replies), "place": 0, "status": 0, "reason": 0, "field": 0}
     for length in [0, 1, len(replies) - 1, len(replies), len(replies) + 1, 1000]:
@@ -206,7 +206,7 @@ def rooms(suite: Suite, module: ModuleType, call: Call) -> None:
 
 
 def periods(suite: Suite, module: ModuleType, call: Call) -> None:
-    """A period that there is not leaves the room as it was."""
+    """An invalid period leaves the buffer unchanged."""
     for period in [0, 1, 1_441, 65_535]:
         came = into_room(module, call, b"." * 9, period, b"cost\n")
         wanted = (b"." * 9, {"length": 0, "place": 0, "status": 9, "reason": 0, "field": 0})
@@ -216,7 +216,7 @@ def periods(suite: Suite, module: ModuleType, call: Call) -> None:
 
 
 def moved(suite: Suite, title: str, words: Sequence[object]) -> None:
-    """A local search of embedded/moves.c over a session keeps no move at which the cost rises."""
+    """A local search of embedded/moves.c over a session keeps no move that raises the cost."""
     folder = TOP / "examples/two-trains"
     came = run([*words, "10", folder / "activities", folder / "times", "1000"], env={"LD_LIBRARY_PATH": str(suite.folder / "prefix/lib")})
     wanted = {"status": 0, "standard output": b"cost 3, now 3\n"}
@@ -225,7 +225,7 @@ def moved(suite: Suite, title: str, words: Sequence[object]) -> None:
 
 @within(240)
 def installed_library(suite: Suite) -> None:
-    """tools/install puts header and libraries where a linker finds them, and the crate of embedded/rust is tried over them."""
+    """tools/install puts header and libraries where a linker finds them, and the crate of embedded/rust is tested with them."""
     prefix, compiler, cargo = suite.folder / "prefix", shutil.which("gcc") or shutil.which("cc"), shutil.which("cargo")
     env = {**os.environ, "PESPBENCH": str(suite.program), "HOME": str(suite.folder)}
     suite.note("tools/install", {"status": 0, "standard error": b""}, run([TOP / "tools/install", prefix], env=env))

@@ -1,4 +1,4 @@
-"""Files for tools/test_program: forms that stand for the same rows, and faulty files with what is told of them."""
+"""Files for tools/test_program: forms of the same rows, and faulty files with their faults."""
 
 from tests.rules import MARK
 
@@ -8,7 +8,7 @@ TWO_FIXED = b"1; 5\n"
 ROWS = TWO.splitlines(keepends=True)
 COMMA_ROWS = b"1,1,2,3,5,2\n2,2,1,4,6,1\n"
 
-# Each stands for TWO.
+# Each represents TWO.
 ACTIVITY_FORMS = {
     "rows in another order": ROWS[1] + ROWS[0],
     "line ends of Windows": TWO.replace(b"\n", b"\r\n"),
@@ -52,7 +52,7 @@ ACTIVITY_FORMS = {
     "a weight with ten thousand zeros": b"1; 1; 2; 3; 5; 2." + b"0" * 10_000 + b"\n" + ROWS[1],
 }
 
-# Each stands for TWO_TIMES, at period 10.
+# Each represents TWO_TIMES, at period 10.
 EVENT_FORMS = {
     "rows in another order": b"2; 3\n1; 0",
     "line ends of Windows": b"1; 0\r\n2; 3\r\n",
@@ -77,7 +77,7 @@ EVENT_FORMS = {
 }
 
 
-# The faults of rows, as they are told
+# The texts of faults of rows
 
 
 FIELDS = "wrong number of fields"
@@ -98,7 +98,7 @@ def out(field: object) -> str:
     return f"field {field} is out of range"
 
 
-# Of each faulty file: its bytes, the number of the record that is named, and its fault.
+# For each faulty file: its bytes, the number of the named record, and its fault.
 ACTIVITY_FAULTS = {
     "five fields": (b"1; 1; 2; 3; 5", 1, FIELDS),
     "seven fields": (b"1; 1; 2; 3; 5; 2; x", 1, FIELDS),
@@ -202,7 +202,7 @@ ACTIVITY_FAULTS = {
     "a record over two lines is counted once": (b'"# a\nb"\n"a\r\nb"\n3', 3, FIELDS),
 }
 
-# Of the events 1 and 2, which are those of TWO, so that these are faults of fixed times too.
+# With the events 1 and 2 of TWO, so that these are faults of fixed times too.
 EVENT_FAULTS = {
     "one field": (b"1", 1, FIELDS),
     "three fields": (b"1; 0; 0", 1, FIELDS),

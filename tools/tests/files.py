@@ -57,7 +57,7 @@ def longest_files(suite: Suite) -> None:
 
 
 class Writer:
-    """Writes to a named pipe beside a run, and ends with it, also where the run did not open the pipe."""
+    """Writes to a named pipe during a run, and ends with it, even if the run did not open the pipe."""
 
     def __init__(self, fifo: Path, content: bytes) -> None:
         self.fifo = fifo
@@ -73,7 +73,7 @@ class Writer:
         self.thread.start()
 
     def __exit__(self, *_: object) -> None:
-        # A reader that comes and goes lets a writer go that still waits for one.
+        # A short-lived reader releases a writer that still waits for one.
         os.close(os.open(self.fifo, os.O_RDONLY | os.O_NONBLOCK))
         self.thread.join()
 
@@ -97,7 +97,7 @@ def pipes(suite: Suite) -> None:
 
 
 def order_of_faults(suite: Suite) -> None:
-    """Three files, each of them fine, faulty, not there or too long."""
+    """Three files, each of them valid, faulty, missing or too long."""
     fine = {"activities": TWO, "fixed": TWO_FIXED, "times": TWO_TIMES}
     sparse = suite.file("sparse", b"")
     os.truncate(sparse, LONGEST + 1)

@@ -1,4 +1,4 @@
-"""What every test uses: the programs, files for them, and the count of cases."""
+"""The common parts of all tests: the programs, files for them, and the count of cases."""
 
 import os
 import pathlib
@@ -11,17 +11,17 @@ VERSION = (TOP / "python/pespbench/VERSION").read_text().strip()
 # Its numbers, and the number that the library returns.
 NUMBERS = VERSION.partition("+")[0].split(".")
 VERSION_NUMBER = int("".join(f"{int(number):03}" for number in NUMBERS))
-# The most that one run of a program may take.
+# The greatest seconds of one run of a program.
 SECONDS = 60
 NAMES = ["activities", "fixed", "times"]
 
-# A group of tests, which keeps its type where its time is set.
+# A group of tests, whose type is kept when its time is set.
 Kind = TypeVar("Kind", bound=Callable[..., None])
-# The words of a command, each told by its text.
+# The words of a command, each converted to text.
 Words = Sequence[object]
 # Where a command writes to.
 Stream = Union[None, int, IO[Any]]
-# What a command gives.
+# The result of a command.
 Came = TypedDict("Came", {"status": Union[int, str], "standard output": bytes, "standard error": bytes})
 
 NOT_WRITTEN = b"pespbench: replies cannot be written\n"
@@ -29,7 +29,7 @@ NOT_READ = b"pespbench: commands cannot be read\n"
 
 
 class Some:
-    """Stands for every text that is not empty."""
+    """Matches every nonempty text."""
 
     def __eq__(self, text: object) -> bool:
         return isinstance(text, Sized) and len(text) > 0
@@ -42,7 +42,7 @@ SOME = Some()
 
 
 def within(seconds: int) -> Callable[[Kind], Kind]:
-    """Sets the time that a group may take."""
+    """Sets the seconds of a group."""
 
     def mark(group: Kind) -> Kind:
         setattr(group, "seconds", seconds)
@@ -52,7 +52,8 @@ def within(seconds: int) -> Callable[[Kind], Kind]:
 
 
 class Suite:
-    """The program, a folder for the files of a group, and a file that has one letter for each case, beside one with the last one's name."""
+    """The program, a folder for the files of a group, and a file with one letter for each case, beside one with the last one's
+    name."""
 
     def __init__(self, program: pathlib.Path, folder: pathlib.Path, tally: pathlib.Path) -> None:
         self.program = program
@@ -81,7 +82,7 @@ class Suite:
         self.note(name, {"it": True}, {"it": bool(fact)})
 
     def case(self, name: str, words: Words, status: int = 0, output: object = b"", error: object = b"", **how: Any) -> None:
-        """Runs the program once, and notes all three of what it gives."""
+        """Runs the program once, and checks its status and both outputs."""
         came = run([self.program, *words], **how)
         wanted = {"status": status, "standard output": output, "standard error": error}
         self.note(name, wanted, came)
@@ -104,7 +105,7 @@ def run(
     seconds: float = SECONDS,
     **how: Any,
 ) -> Came:
-    """What a command gives: its status, and what it wrote where that is taken here. `how` is handed on to subprocess.run."""
+    """The result of a command: its status, and its captured output. Other arguments are passed on to subprocess.run."""
     source: Dict[str, Any] = {} if "stdin" in how else {"stdin": subprocess.DEVNULL} if given is None else {"input": given}
     words: List[Union[str, bytes]] = [word if isinstance(word, bytes) else str(word) for word in command]
     try:
@@ -121,7 +122,7 @@ def run(
 
 
 def closed_pipe() -> int:
-    """The end to write to of a pipe that nobody reads."""
+    """The write end of a pipe that nobody reads."""
     reader, writer = os.pipe()
     os.close(reader)
     return writer
@@ -144,7 +145,7 @@ def words_for(name: str, path: object) -> List[object]:
 
 
 def missing(event: int) -> bytes:
-    """The replies to a check where an event has no time."""
+    """The replies to a check if an event has no time."""
     return f"refused 11 event {event} has no time\n".encode() * 3
 
 

@@ -1,4 +1,4 @@
-"""Every tool says what it is for, refuses what it does not know, and does nothing else then."""
+"""Every tool explains itself, refuses unknown options, and does nothing else then."""
 
 import os
 import re
@@ -10,7 +10,7 @@ from tests.harness import SOME, TOP, Suite, run, within
 from tests.start_tree import Tree
 
 TOOLS = TOP / "tools"
-# In the place of the toolchain: a tool that begins to prove leaves a file.
+# Instead of the toolchain: a tool that starts to prove leaves a file.
 TOOLCHAIN = '#!/bin/sh\n[ "$1" = doc ] || [ "$1" = version ] || touch "$ASKED"\nexit 1\n'
 
 
@@ -20,7 +20,7 @@ def tools() -> List[Path]:
 
 
 def unexplained(told: str) -> List[str]:
-    """The words and options that a help of argparse lists without a text, beside them or below them, and what it lacks before them."""
+    """The words and options without a text in a help of argparse, beside them or below them, and what is missing before them."""
     head, *lists = re.split(r"\n(?:positional arguments|options):\n", told)
     entries = [entry for part in lists for entry in re.split(r"\n  (?=\S)", f"\n{part.rstrip()}")[1:]]
     bare = [entry for entry in entries if not re.search(r"\S(  +|\n +)\S", entry)]
@@ -39,7 +39,7 @@ def surroundings(suite: Suite, home: Path) -> Dict[str, str]:
 
 @within(480)
 def helping(suite: Suite) -> None:
-    """`--help` and `-h` print how a tool is used, with status 0; another option is a fault with status 2."""
+    """`--help` and `-h` print the usage of a tool, with status 0; an unknown option is a fault with status 2."""
     home = suite.folder / "home"
     env = surroundings(suite, home)
     suite.holds("there are tools", len(tools()) > 15)
@@ -59,7 +59,7 @@ def helping(suite: Suite) -> None:
 
 
 def helping_start(suite: Suite) -> None:
-    """tools/pespbench builds nothing for help, the version, or an option that the program does not have; a built program gets them."""
+    """tools/pespbench builds nothing for help, the version, or an unknown option; a built program receives them."""
     tree = Tree(suite)
     (tree.top / "python/pespbench").mkdir(parents=True)
     (tree.top / "python/pespbench/VERSION").write_text("1.2.3\n")

@@ -1,4 +1,4 @@
-"""What tools/install promises of PREFIX, of links, of who can read, and of two at once; and where the command looks for modules."""
+"""The promises of tools/install on PREFIX, links, readers, and two at once; and where the command searches for modules."""
 
 import ctypes
 import os
@@ -27,7 +27,7 @@ def install(suite: Suite, *words: object, **how: Any) -> Came:
 
 
 def searched(suite: Suite, prefix: Path, command: str = "bin/pespbench-py", **how: Any) -> Came:
-    """What the installed command finds, with the program that was installed."""
+    """The result of the installed command, with the installed program."""
     env = surroundings(suite, **{"PESPBENCH": "", **how.pop("env", {})})
     return run([prefix / command, "search", "--period", "10", TWO], env=env, **how)
 
@@ -43,7 +43,7 @@ def is_whole(suite: Suite, title: str, prefix: Path) -> None:
 
 @within(240)
 def installed_command(suite: Suite) -> None:
-    """The installed command takes no module of the folder where it is called, or of one that the environment names."""
+    """The installed command uses no module of its current folder, or of one in the environment."""
     prefix = suite.folder / "prefix"
     suite.note("tools/install", {"status": 0, "standard error": b""}, install(suite, prefix))
     strangers = suite.folder / "strangers"
@@ -60,7 +60,7 @@ def installed_command(suite: Suite) -> None:
 
 @within(240)
 def installed_prefixes(suite: Suite) -> None:
-    """PREFIX with marks that a shell or a search path takes for its own, and of nothing."""
+    """PREFIX with characters that a shell or a search path interprets, and an empty one."""
     for name in ["a:b", "two words", "it's $HOME", "./-n"]:
         suite.note(f"tools/install {name}", {"status": 0, "standard error": b""}, install(suite, name, cwd=suite.folder))
         prefix = suite.folder / name
@@ -79,7 +79,7 @@ def installed_prefixes(suite: Suite) -> None:
 
 @within(240)
 def installed_links(suite: Suite) -> None:
-    """Nothing is written or deleted through a link in the place of a file or of the package."""
+    """Nothing is written or deleted through a link instead of a file or of the package."""
     victim = suite.folder / "victim"
     (victim / "python/pespbench").mkdir(parents=True)
     (victim / "python/pespbench/mine.py").write_text("mine\n")
@@ -118,7 +118,7 @@ def installed_for_all(suite: Suite) -> None:
 
 @within(240)
 def installed_at_once(suite: Suite) -> None:
-    """However many install at once, all end well, and one whole package is there."""
+    """However many install at once, all succeed, and one complete package results."""
     prefix = suite.folder / "prefix"
     for turn in range(3):
         several = [subprocess.Popen([INSTALL, prefix], env=surroundings(suite), stdout=subprocess.DEVNULL, stderr=subprocess.PIPE) for _ in range(4)]
@@ -127,14 +127,14 @@ def installed_at_once(suite: Suite) -> None:
         is_whole(suite, f"four at once, {turn}", prefix)
 
 
-# What --module wants beside Python.
+# The commands that --module needs besides Python.
 WANTED = ("wasm2c", "gcc")
 STREAMS, LINES = 200, 40
 
 
 @within(480)
 def installed_module(suite: Suite) -> None:
-    """Program and library of the page's module answer as the program does, and say that nothing of them is proved."""
+    """Program and library of the page's module behave like the program, and report that nothing of them is proved."""
     missing = [name for name in WANTED if not shutil.which(name)]
     if missing:
         print(f"  nothing was installed of the page's module: there is no {missing[0]}")
@@ -158,7 +158,7 @@ def installed_module(suite: Suite) -> None:
 
 
 def same_streams(suite: Suite, made: Path) -> None:
-    """Drawn runs, each with searches, give the program's bytes."""
+    """Random runs, each with searches, return the program's bytes."""
     draw = random.Random(8_501)
     for number in range(STREAMS):
         period = draw.randint(2, 12)
@@ -168,7 +168,7 @@ def same_streams(suite: Suite, made: Path) -> None:
 
 
 def same_words(suite: Suite, made: Path) -> None:
-    """Words, files and streams that are refused, faulty or at an end."""
+    """Words, files and streams that are refused, faulty or closed."""
     crossed, lines = suite.file("crossed", b"1; 1; 2; 5; 3; 2\n"), b"x" * 4_096 + b"\n" + b"y" * 4_097
     faulty: List[List[object]] = [[], ["--check", TWO], [suite.folder], ["none"], [crossed], ["--times", crossed], ["--check", "--times", TWO]]
     for words in faulty:
@@ -184,7 +184,7 @@ def same_words(suite: Suite, made: Path) -> None:
 
 
 def callers_of_module(suite: Suite, prefix: Path) -> None:
-    """The library serves a caller in C, static and shared, and the Python package."""
+    """The library works for a caller in C, static and shared, and for the Python package."""
     folder = TOP / "examples/two-trains"
     links: List[Tuple[str, List[object]]] = [("shared", [f"-L{prefix / 'lib'}", "-lpespbench"]), ("static", [prefix / "lib/libpespbench.a"])]
     for title, link in links:

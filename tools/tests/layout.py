@@ -1,6 +1,6 @@
-"""The header of the library in process says what the crate says: the order of each call's parameters, the layouts of what is
-told, of what is found and of a session, and the numbers. A C file of assertions is made from the crate's sources, and a C compiler checks it
-against the header."""
+"""The header of the library in process agrees with the crate: the order of each call's parameters, the layouts of a report, of a
+search's result and of a session, and the numbers. A C file of assertions is made from the crate's sources, and a C compiler checks
+it against the header."""
 
 import re
 import shutil
@@ -10,7 +10,7 @@ from tests.harness import TOP, Suite, run
 
 CRATE = TOP / "crates/pesp_embedded/src"
 HEADER = TOP / "embedded/pespbench.h"
-# The types of parameters and fields: those of C, and how many bytes a field has.
+# The types of parameters and fields: those of C, and the bytes of a field.
 PARAMETERS = {
     "u16": ["uint16_t"],
     "u32": ["uint32_t"],
@@ -26,7 +26,7 @@ PARAMETERS = {
     "&mut i64": ["int64_t *"],
 }
 FIELDS = {"u64": 8, "u32": 4}
-# The words of the header for those of the crate that are not the same in capitals.
+# The header's words for those of the crate that differ by more than capitals.
 STATUSES = {
     "Ok": "PESP_DONE",
     "Activities": "PESP_FAULT_OF_ACTIVITIES",
@@ -48,7 +48,7 @@ STATES = {
 
 
 def calls() -> Dict[str, List[Tuple[str, str]]]:
-    """By the name of a call the names and types of its parameters, but for the allocator, which no caller sees."""
+    """For each call the names and types of its parameters, except the allocator, which no caller sees."""
     text = "".join((CRATE / name).read_text() for name in ["lib.rt", "numbers.rt", "searching.rt", "pricing.rt"])
     found = re.findall(r'pub extern "C" fn (\w+)\((.*?)\)\s+ensures', text, re.S)
     given = {call: re.findall(r"(\w+): ([^,]+?)(?:,|$)", listed) for call, listed in found}
@@ -62,7 +62,7 @@ def fields(name: str) -> List[Tuple[str, str]]:
 
 
 def found_in(pattern: str, text: str) -> str:
-    """What a pattern's group has in a text that has it."""
+    """The text in a pattern's group in a text that contains it."""
     found = re.search(pattern, text, re.S)
     assert found is not None
     return found[1]
@@ -86,7 +86,7 @@ def numbers(told: str) -> Dict[str, int]:
 
 
 def faults() -> Dict[str, int]:
-    """The same of calls on a session; what a run may end with too has the run's word and number."""
+    """The same for calls on a session; an end that a run shares has the run's word and number."""
     text = (CRATE / "fault.rt").read_text()
     told = re.findall(r"Fault::(\w+) => Told::ended\(0, (\d+), 0\),", text)
     told.append(("Refused", found_in(r"status: (\d+),", text)))
@@ -94,13 +94,13 @@ def faults() -> Dict[str, int]:
 
 
 def states() -> Dict[str, int]:
-    """The same of what a search has come to."""
+    """The same for the result of a search."""
     arms = re.findall(r"^ +(.+) => \([\w.*]+, (\d+)\),$", (CRATE / "found.rt").read_text(), re.M)
     return {STATES[arm]: int(number) for arm, number in arms}
 
 
 def layout_of(name: str) -> Iterator[str]:
-    """Where the fields of `Told` or `Found` are."""
+    """The offsets of the fields of `Told` or `Found`."""
     struct, place = f"struct pesp_{name.lower()}", 0
     for field, kind in fields(name):
         yield f'_Static_assert(offsetof({struct}, {field}) == {place}, "{field}");'
@@ -110,7 +110,7 @@ def layout_of(name: str) -> Iterator[str]:
 
 
 def assertions() -> Iterator[str]:
-    """A C file that a compiler takes just where the header says what the crate says."""
+    """A C file that compiles only if the header agrees with the crate."""
     told = (CRATE / "told.rt").read_text()
     yield '#include "pespbench.h"'
     yield from layout_of("Told")
@@ -127,7 +127,7 @@ def assertions() -> Iterator[str]:
 
 
 def names_of_the_header() -> Dict[str, List[str]]:
-    """By the name of a call the names of its parameters, without those of lengths."""
+    """For each call the names of its parameters, without those of lengths."""
     found = {}
     for call, listed in re.findall(r"void (\w+)\((.*?)\);", HEADER.read_text(), re.S):
         names = [each.split()[-1].lstrip("*") for each in listed.split(",")]
@@ -136,7 +136,7 @@ def names_of_the_header() -> Dict[str, List[str]]:
 
 
 def layout_in_c(suite: Suite) -> None:
-    """The order of parameters, and each number that the header lists; offsets and sizes, where there is a C compiler."""
+    """The order of parameters, and each number in the header; offsets and sizes, if there is a C compiler."""
     told = (CRATE / "told.rt").read_text()
     names = {call: [name for name, _ in parameters] for call, parameters in calls().items()}
     suite.note("parameters", {"names": names}, {"names": names_of_the_header()})

@@ -1,4 +1,4 @@
-"""What `try` tells with more and more nodes: never a dearer timetable, and at its end the optimum."""
+"""The replies to `try` with more and more nodes: never a dearer timetable, and the optimum at the end."""
 
 import random
 from pathlib import Path
@@ -21,7 +21,7 @@ def drawn_rows(draw: random.Random, events: int, activities: int, period: int) -
 
 
 def told(suite: Suite, activities: Path, period: int, line: bytes) -> Tuple[bool, int]:
-    """The first words of the reply: whether it ended, and the cost, which is the greatest where nothing was found."""
+    """The first words of the reply: whether the search ended, and the cost, which is the greatest if nothing was found."""
     words = run([suite.program, "--period", str(period), activities], given=line)["standard output"].split()
     return words[0] == b"optimum", int(words[1]) if words[1].isdigit() else 2**64
 

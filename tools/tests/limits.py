@@ -3,7 +3,7 @@
 LEAST_PERIOD = 2
 GREATEST_PERIOD = 1_440
 
-# Up to here a network may have the most events and activities that there are at any period.
+# Up to this period a network may have the greatest numbers of events and activities.
 FULL_PERIOD = 120
 
 

@@ -1,4 +1,4 @@
-"""Runs groups of tests, each in a process of its own that is ended when its time is over."""
+"""Runs groups of tests, each in a process of its own that is killed when its time is over."""
 
 import argparse
 import multiprocessing
@@ -21,7 +21,7 @@ Group = Callable[[Suite], None]
 TOPICS = [examples, commands, quick_model, dialogue, streams, limited, several, arguments, files, rows, checks, devices, scripts, drawing, documents]
 TOPICS += [start_script, unproved, shelves, strangers, packaging, installing, package, embedded, layout, page_module, module_program, written, wording]
 TOPICS += [sources, solvers, without_proof, helping, drawn_cases]
-# A group takes a few seconds; this is the most where it names nothing else.
+# A group takes a few seconds; this is the limit by default.
 SECONDS = 240
 
 
@@ -34,10 +34,10 @@ def limit_of(group: Group) -> int:
 
 
 def alone(group: Group, suite: Suite) -> None:
-    """Runs a group in a session of its own, so that all that it starts can be ended with it.
+    """Runs a group in a session of its own, so that all processes that it starts can be killed with it.
 
-    Who starts the tests in the background of a script has interrupts ignored, or by `nohup` hang-ups, and so would all that they
-    start.
+    A script that starts the tests in the background ignores interrupts, or by `nohup` hang-ups, and so would all processes that
+    they start.
     """
     os.setsid()
     signal.signal(signal.SIGINT, signal.default_int_handler)
@@ -50,7 +50,7 @@ def alone(group: Group, suite: Suite) -> None:
 
 
 def run_group(name: str, group: Group, program: pathlib.Path, folder: pathlib.Path, patience: int) -> Tuple[int, int]:
-    """How many cases of a group passed, and how many failed, within so many times its seconds."""
+    """The numbers of passed and failed cases of a group, within a multiple of its seconds."""
     seconds = patience * limit_of(group)
     folder.mkdir()
     tally = folder.with_suffix(".tally")
@@ -95,6 +95,6 @@ def main(words: Optional[Sequence[str]]) -> int:
     program = chosen.program.absolute()
     if not os.access(program, os.X_OK):
         parser.error(f"there is no program at {program}")
-    # The tests of the Python package read it there.
+    # The tests of the Python package read it from there.
     os.environ["PESPBENCH_PATIENCE"] = str(chosen.patience)
     return run_all({name: group for name, group in groups().items() if not chosen.only or name in chosen.only}, program, chosen.patience)

@@ -1,6 +1,6 @@
-"""The commands, as docs/FORMATS.md and docs/RULES.md say them, computed here without the program.
+"""The commands, as docs/FORMATS.md and docs/RULES.md define them, computed here without the program.
 
-`reply` gives the one legal reply to a line; to `try N` several are legal, and `may_try` tells whether a given one is.
+`reply` returns the one legal reply to a line; to `try N` several are legal, and `may_try` returns whether a given one is.
 """
 
 from typing import Dict, Iterable, List, Mapping, Optional, Sequence, Set, Tuple
@@ -115,10 +115,10 @@ class Model(Network):
         lines += [" ".join(map(str, ["add activity", name, *row])) for name, row in sorted(self.activities.items())]
         return [f"# period {self.period} lines {len(lines)}", *lines]
 
-    # What `try` may answer
+    # The legal replies to `try`
 
     def reached(self, limit: int) -> Tuple[List[Dict[int, int]], bool]:
-        """The timetables that meet everything within so many nodes of the tree, and whether that is all of the tree."""
+        """The timetables that meet everything within this many nodes of the tree, and whether that is the whole tree."""
         found: List[Dict[int, int]] = []
         nodes = 0
         events = sorted(self.events)

@@ -1,4 +1,4 @@
-"""The page's module in the place of the program: what it says first, its streams, and its bytes beside the program's."""
+"""The page's module instead of the program: its first message, its streams, and its bytes compared with the program's."""
 
 import random
 from concurrent.futures import ThreadPoolExecutor
@@ -18,9 +18,9 @@ START = TOP / "tools/pespbench"
 MODULE = TOP / "tools/pespbench_module"
 NOT_PROVED = b"tools/pespbench: the page's module runs, under Node: nothing of what it answers is proved\n"
 STREAMS, LINES, AT_ONCE = 2_000, 40, 4
-# Where a case runs, its words, and what it is given.
+# The folder of a case, its words, and its input.
 Case = Tuple[Path, Words, bytes]
-# How many lines a session says again after a hundred networks that came and went: before a question, an optimum and a try.
+# How many lines a session repeats after a hundred networks that were added and dropped: before a query, an optimum and a try.
 KEPT = """
 const { Kept } = require(process.argv[1]);
 const kept = new Kept();
@@ -35,7 +35,7 @@ console.log(...['cost', 'optimum', 'try'].map(name => kept.before([name]).length
 
 
 def module_start(suite: Suite) -> None:
-    """It says first that nothing is proved; streams, statuses and faults are then the program's."""
+    """Its first message is that nothing is proved; streams, statuses and faults are then the program's."""
     activities = suite.file("activities", TWO)
     table: Dict[str, Tuple[Words, bytes, int, bytes, bytes]] = {
         "a session": (["--period", "10", activities], b"fix 1 0\ndomain 2\nx\n", 0, b"ok\n2: 4 5\nfault unknown command\n", b""),
@@ -76,13 +76,13 @@ def module_session(suite: Suite) -> None:
 
 
 def module_kept(suite: Suite) -> None:
-    """What a session says again does not grow with what came and went."""
+    """The lines that a session repeats do not grow with dropped events and activities."""
     come = run(["node", "-e", KEPT, TOP / "tools/module/kept.js"])
     suite.note("lines that are said again", {"status": 0, "standard output": b"0 0 10\n", "standard error": b""}, come)
 
 
 def cases_of(suite: Suite) -> Iterator[Case]:
-    """Rows, examples and the table of commands: where each runs, its words, and what it is given."""
+    """Rows, examples and the table of commands: the folder of each, its words, and its input."""
     activities, times = suite.file("two", TWO), suite.file("two times", TWO_TIMES)
     forms = [(name, text) for name in NAMES for text in (ACTIVITY_FORMS if name == "activities" else EVENT_FORMS).values()]
     faults = {"activities": ACTIVITY_FAULTS, "fixed": {**EVENT_FAULTS, **FIXED_FAULTS}, "times": EVENT_FAULTS}
@@ -99,7 +99,7 @@ def cases_of(suite: Suite) -> Iterator[Case]:
 
 
 def streams_of(suite: Suite) -> Iterator[Case]:
-    """Drawn streams: of lines alone, and in every fourth over drawn files."""
+    """Random streams: of lines alone, and in every fourth over random files."""
     draw = random.Random(5_602)
     for number in range(STREAMS):
         if number % 4:

@@ -1,8 +1,8 @@
 'use strict';
 
 // Answers runs by the page's module, for tools/tests/page_module.py: each line of standard input is a run in JSON, with its bytes in
-// base64, and each line of standard output what came of it. `limit` is the most memory for blocks; 0 is as much as there is. Where
-// `isSession`, a session is asked line by line, and in the end its cost and its optimum in numbers and by lines.
+// base64, and each line of standard output is its result. `limit` is the most memory for blocks; 0 is no limit. If `isSession`, a
+// session answers line by line, and in the end its cost and its optimum in numbers and by lines.
 //
 // usage: node module_runs.js MODULE.JS MODULE.WASM
 const { readFileSync } = require('node:fs');
@@ -11,7 +11,7 @@ const { createInterface } = require('node:readline');
 const PespModule = require(process.argv[2]);
 const bytesOf = text => new Uint8Array(Buffer.from(text, 'base64'));
 const MOST = 2 ** 30;
-// So many nodes has a search of a drawn run.
+// The nodes of a search of a random run.
 const NODES = 20;
 
 const linesOf = bytes => {
@@ -20,13 +20,13 @@ const linesOf = bytes => {
   return lines.map(line => new Uint8Array(Buffer.from(line, 'latin1')));
 };
 
-// Whether the cost is told as the line `cost` tells it, where there is memory for that.
+// Whether the cost is that of the line `cost`, if there is memory for that.
 const isSameCost = (module, session) => {
   const { cost, fault } = PespModule.cost(module, session), { output, ending } = PespModule.ask(module, session, 'cost');
   return ending.status > 0 || Buffer.from(output).toString() === `${fault || `cost ${cost}`}\n`;
 };
 
-// Whether a search tells in numbers what the line `try 0` tells after it, where there is memory for both.
+// Whether the result of a search in numbers is that of the line `try 0` after it, if there is memory for both.
 const isSameSearch = (module, session) => {
   const { state, cost, lowerBound, goesOn, times, ending } = PespModule.search(module, session, NODES);
   const { output, ending: after } = PespModule.ask(module, session, 'try 0');
@@ -37,7 +37,7 @@ const isSameSearch = (module, session) => {
   return head === ['stopped none', `stopped ${told}`, `optimum ${told}`, 'infeasible'][state] && isBound && areTimes && isStill;
 };
 
-// What a session answers up to the first line that it does not.
+// The answers of a session up to the first line that it does not answer.
 const answerByLines = (module, { commands, ...files }) => {
   const { session, ending, fault } = PespModule.open(module, files), replies = [], ended = { ending, fault };
   if (!session) return { output: Buffer.alloc(0), ...ended };

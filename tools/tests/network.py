@@ -1,7 +1,7 @@
-"""A network for tests/model.py: its edits with their refusals, and what the rules of docs/RULES.md say of it.
+"""A network for tests/model.py: its edits with their refusals, and its values by the rules of docs/RULES.md.
 
-It is plain: domains are found by taking pairs away until nothing changes, and the optimum by trying all timetables that
-stand at bounds. Sets of residues are numbers, so that both are quick at a long period too.
+It is plain: domains are found by removing pairs until nothing changes, and the optimum by trying all timetables at
+bounds. Sets of residues are numbers, so that both are fast at a long period too.
 """
 
 from typing import Dict, Iterable, List, Mapping, Optional, Set, Tuple
@@ -13,7 +13,7 @@ from tests.rules import Row, Times
 
 
 class Refused(Exception):
-    """Why a command is not done."""
+    """Why a command is refused."""
 
 
 class Network:
@@ -111,7 +111,7 @@ class Network:
     # The rules
 
     def admits(self, event: int, residue: int) -> bool:
-        """Whether the event may stand at the residue, which is below the period, by its window."""
+        """Whether the event's window admits the residue, which is below the period."""
         first, length = self.windows.get(event, (0, self.period))
         return (residue - first) % self.period < length
 
@@ -139,7 +139,7 @@ class Network:
         return {event: set(listed(bits)) for event, bits in self.domain_bits(pushed).items()}
 
     def domain_bits(self, pushed: Optional[Mapping[int, int]] = None) -> Dict[int, int]:
-        """The domains: pairs are taken away as long as one of them lacks a partner."""
+        """The domains: pairs are removed as long as one of them lacks a partner."""
         rows = {event: self.admitted_bits(event) for event in self.events}
         for event, time in (pushed or {}).items():
             rows[event] &= 1 << time
@@ -154,8 +154,8 @@ class Network:
     def best(self) -> Optional[Tuple[int, Dict[int, int]]]:
         """The first timetable of least cost, with its cost, or None.
 
-        Of two timetables of one cost the first is that with the smaller time at the first event, ascending, at which
-        they differ.
+        Of two timetables of equal cost the first is that with the smaller time at the first event, ascending, at
+        which they differ.
         """
         return optimum.best(self)
 

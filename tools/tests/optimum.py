@@ -1,13 +1,13 @@
 """The first timetable of least cost, for tests/network.py.
 
-Events that activities join, at once or over others, are a part, and each part is timed by itself. Of its timetables of
-least cost the first one stands at bounds: each event is at 0, or at an end of its window, or as close to an event that
-stands so as an activity admits, or as far from it. For let each activity go over as many periods as it does there. What
-is to be met are then bounds on times and on differences of times, and the cost is linear, so the timetables of least
+Events that activities join, directly or indirectly, are a part, and each part is timed by itself. Of its timetables of
+least cost the first one is at bounds: each event is at 0, or at an end of its window, or as close to an event at a
+bound as an activity admits, or as far from it. For fix the number of periods that each activity spans there. The
+constraints are then bounds on times and on differences of times, and the cost is linear, so the timetables of least
 cost are all that meet these bounds, some of them exactly. One of them has each time as small as it can be. It is the
-first, and from 0 or the end of a window a chain of bounds leads to each event. So all timetables that stand at bounds
-are tried, and no others. Where no event of a part has a window, all times of the part can be moved together, and its
-first event is at 0.
+first, and a chain of bounds leads from 0 or the end of a window to each event. So all timetables at bounds are tried,
+and no others. If no event of a part has a window, all times of the part can be shifted together, and its first event is
+at 0.
 """
 
 from typing import TYPE_CHECKING, Dict, Iterable, Iterator, List, Optional, Set, Tuple
@@ -17,12 +17,12 @@ from tests.rules import Row
 if TYPE_CHECKING:
     from tests.network import Network
 
-# Times by event, as pairs that rise by event.
+# Times by event, as pairs ascending by event.
 Times = Tuple[Tuple[int, int], ...]
 
 
 def parts(events: Iterable[int], activities: Iterable[Row]) -> List[List[int]]:
-    """The events that activities join, over others or at once, each part ascending."""
+    """The events that activities join, directly or indirectly, each part ascending."""
     of = {event: {event} for event in events}
     for first, last, *_ in activities:
         if of[first] is not of[last]:
@@ -46,7 +46,7 @@ class Part:
         return {0, first, (first + length - 1) % self.network.period}
 
     def first_times(self) -> Iterator[Times]:
-        """What one event alone may take."""
+        """The greatest cost of one event alone."""
         if not any(event in self.network.windows for event in self.events):
             yield ((self.events[0], 0),)
             return
@@ -57,7 +57,7 @@ class Part:
         return bool(self.admitted[event] >> time & 1)
 
     def more_times(self, times: Dict[int, int]) -> Iterator[Times]:
-        """The times with that of one event more, which stands at a bound."""
+        """The times with that of one more event, at a bound."""
         for event in self.events:
             if event not in times:
                 for time in self.bounds(event, times):
@@ -65,7 +65,7 @@ class Part:
                         yield tuple(sorted({**times, event: time}.items()))
 
     def bounds(self, event: int, times: Dict[int, int]) -> Set[int]:
-        """The times at bounds that the event may take, beside those of others."""
+        """The times at bounds of the event, relative to others."""
         found, period = self.ends(event), self.network.period
         for first, last, lower, upper, _ in self.rows[event]:
             for step in (lower, lower + min(upper - lower, period - 1)):
@@ -80,7 +80,7 @@ class Part:
         return all(self.network.met(row, times) for row in self.rows[event] if row[0] in times and row[1] in times)
 
     def best(self) -> Optional[Tuple[int, Times]]:
-        """The least cost and the first times of it, or None where nothing meets everything."""
+        """The least cost and its first times, or None if nothing meets everything."""
         found = set(self.first_times())
         found = {times for times in found if self.is_met(times[0][0], dict(times))}
         for _ in self.events[1:]:

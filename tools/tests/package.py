@@ -1,4 +1,4 @@
-"""The tests of the Python package, each of which is a case here; and types, of all of it and of tools/."""
+"""The tests of the Python package, each of which is a case here; and type checks, of all of it and of tools/."""
 
 import configparser
 import importlib.util
@@ -13,7 +13,7 @@ from tests.embedded import shared_library
 from tests.harness import TOP, Suite, within
 
 PYTHON, TOOLS = TOP / "python", TOP / "tools"
-# Debian's own Python, for which its packages are.
+# Debian's own Python, for which its packages are made.
 SYSTEM = "/usr/bin/python3"
 
 
@@ -22,9 +22,9 @@ def environment(suite: Suite) -> Dict[str, str]:
 
 
 def run_tests(suite: Suite, modules: Sequence[str], python: str = sys.executable, warnings: str = "error") -> None:
-    """Notes each test of modules of python/tests; one that is skipped is told, and is no case.
+    """Counts each test of modules of python/tests; a skipped one is reported, and not a case.
 
-    They ran to their end too where all were skipped.
+    They ended normally even if all were skipped.
     """
     command, library = [python, "-W", warnings, "-m", "tests", *modules], shared_library(suite)
     env = {**environment(suite), **({"PESPBENCH_LIB": str(library)} if library else {})}
@@ -43,7 +43,7 @@ def run_tests(suite: Suite, modules: Sequence[str], python: str = sys.executable
 
 
 def modules(*names: str) -> List[str]:
-    """The modules of python/tests but these, or none where one is named that is not there."""
+    """The modules of python/tests except these; none if a named one is missing."""
     found = [f"tests.{path.stem}" for path in sorted((PYTHON / "tests").glob("test_*.py"))]
     return [name for name in found if name not in names]
 
@@ -59,10 +59,10 @@ def a_group(name: str) -> Callable[[Suite], None]:
 
 @within(480)
 def python_dask(suite: Suite) -> None:
-    """The tests over Dask, by Debian's Python, which alone sees Debian's package."""
+    """The tests with Dask, by Debian's Python, which alone finds Debian's package."""
     has_dask = subprocess.run([SYSTEM, "-c", "import distributed"], capture_output=True).returncode == 0
     if has_dask:
-        # Dask of Debian calls what its own libraries have deprecated.
+        # Debian's Dask calls deprecated functions of its own libraries.
         run_tests(suite, ["tests.test_dask"], SYSTEM, warnings="ignore")
     else:
         print("  nothing was tried over Dask: python3-distributed is not installed")
@@ -70,7 +70,7 @@ def python_dask(suite: Suite) -> None:
 
 @within(240)
 def python_habits(suite: Suite) -> None:
-    """The tests with tables, over pandas, numpy and networkx too where Debian's Python has them."""
+    """The tests with tables, also with pandas, numpy and networkx if Debian's Python has them."""
     has_pandas = subprocess.run([SYSTEM, "-c", "import networkx, pandas"], capture_output=True).returncode == 0
     if not has_pandas:
         print("  nothing was tried over pandas and networkx: python3-pandas and python3-networkx are not installed")
@@ -84,7 +84,7 @@ OVER_MPI = "mpiexec -n 8 python3 -m mpi4py.futures examples/on_a_cluster.py exam
 
 @within(240)
 def python_mpi(suite: Suite) -> None:
-    """The example of many variants tells over MPI what it tells over this machine's processors, by Debian's Python."""
+    """The example of many variants prints the same over MPI and over this machine's processors, by Debian's Python."""
     surroundings = {**environment(suite), **ANYWHERE, "PATH": f"/usr/bin:{os.environ['PATH']}"}
     starts = ["mpiexec", "-n", "2", SYSTEM, "-c", "import mpi4py.MPI"]
     if not shutil.which("mpiexec") or subprocess.run(starts, env=surroundings, capture_output=True).returncode:
@@ -98,7 +98,7 @@ def python_mpi(suite: Suite) -> None:
 
 
 def pass_types(suite: Suite, name: str, folder: Path, words: Sequence[str]) -> None:
-    """Notes whether what is in a folder passes a type checker, by its words or by the settings that are there."""
+    """Checks the types of a folder, with these words or with the settings in it."""
     mypy = shutil.which("mypy")
     if mypy is None and importlib.util.find_spec("mypy") is None:
         print("  no type checker was tried: mypy is not installed")
@@ -110,7 +110,7 @@ def pass_types(suite: Suite, name: str, folder: Path, words: Sequence[str]) -> N
 
 @within(240)
 def python_types(suite: Suite) -> None:
-    """The package and its tests pass a type checker, at the oldest Python that they are for."""
+    """The package and its tests pass a type checker, at the oldest supported Python."""
     pass_types(suite, "python: types", PYTHON, ["--strict", "--python-version", "3.9", "pespbench", "tests"])
 
 
@@ -132,7 +132,7 @@ def is_python(path: Path) -> bool:
 
 
 def python_package(suite: Suite) -> None:
-    """The package stands on the standard library alone, compiles at each Python that is here, and has no compiled leavings."""
+    """The package uses only the standard library, compiles with each installed Python, and contains no compiled files."""
     for path in sorted((PYTHON / "pespbench").rglob("*.py")):
         text = path.read_text()
         lines = [line.split() for line in text.splitlines() if line.startswith(("import ", "from "))]

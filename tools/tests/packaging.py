@@ -12,11 +12,11 @@ from tests.documents import sessions
 from tests.harness import NUMBERS, SOME, TOP, VERSION, VERSION_NUMBER, Came, Suite, run, within
 from tests.written import headings_of, links_of
 
-# Debian's own Python, for which its packages are.
+# Debian's own Python, for which its packages are made.
 SYSTEM = "/usr/bin/python3"
 
 
-# Who has the version, since nothing else can tell it there; a changelog has each that there was.
+# The files with the version, which cannot get it from elsewhere; a changelog has every version.
 NAMING = ["python/pespbench/VERSION", "embedded/rust/Cargo.toml", "CHANGELOG.md", "page/pespbench.html"]
 NAMING += ["crates/pesp_shell/src/version.rt", "crates/pesp_tests_shell/src/options.rt"]
 # tools/library makes it.
@@ -25,7 +25,7 @@ ANSWER = ["-o", "answer", "embedded/answer.c", "embedded/heap.c", "embedded/libp
 
 
 def called(suite: Suite, words: Sequence[object], **how: Any) -> Came:
-    """What a tool gives, with the program of the tests as the built one, and a stand-in where the library is not built."""
+    """The result of a tool, with the tested program as the built one, and a stand-in for the library if that is not built."""
     env = {"PATH": os.environ["PATH"], "HOME": str(suite.folder), "PESPBENCH": str(suite.program), "PYTHONDONTWRITEBYTECODE": "1"}
     if LIBRARY.exists():
         env["PESPBENCH_LIBRARY"] = str(LIBRARY)
@@ -35,19 +35,19 @@ def called(suite: Suite, words: Sequence[object], **how: Any) -> Came:
 
 
 def git(tree: Path, *words: str) -> Came:
-    """What git gives in a tree, which no settings of a user change."""
+    """The output of git in a tree, independent of a user's settings."""
     env = {"PATH": os.environ["PATH"], "HOME": str(tree), "GIT_CONFIG_NOSYSTEM": "1"}
     return run(["git", "-C", tree, "-c", "user.name=n", "-c", "user.email=n@n", *words], env=env)
 
 
 def told_of_changes() -> object:
-    """What tools/package tells on standard error: where this tree has what is not committed, that it is left out."""
+    """The warning of tools/package on standard error: uncommitted changes of this tree are left out."""
     return SOME if git(TOP, "status", "--porcelain", "--untracked-files=no")["standard output"] else b""
 
 
 @within(240)
 def package(suite: Suite) -> None:
-    """A package is made, is the same twice, has right sums, and installs what works without the tree."""
+    """A package is made, is the same twice, has right checksums, and installs a working program without the tree."""
     came = [called(suite, [TOP / "tools/package", suite.folder]) for _ in range(2)]
     path = suite.folder / came[0]["standard output"].decode().strip().rpartition("/")[2]
     first = path.read_bytes()
@@ -101,7 +101,7 @@ def one_version(suite: Suite) -> None:
 
 
 def followed(suite: Suite, top: Path) -> None:
-    """What its own page shows is what comes, wherever it is unpacked."""
+    """The commands in its own page have the printed output, wherever it is unpacked."""
     blocks = list(sessions(top / "README.md"))
     suite.holds("the page of the package shows something", blocks)
     for shown in (shown for block in blocks for shown in block):
@@ -111,7 +111,7 @@ def followed(suite: Suite, top: Path) -> None:
 
 
 def parts(suite: Suite, top: Path) -> None:
-    """The page is in it, and the library with its header, over which a caller is made as its page says."""
+    """It has the page, and the library with its header, with which a caller is compiled as its page says."""
     for name in ["page/pespbench.html", "page/README.md", "embedded/pespbench.h", "embedded/libpesp_embedded.a", "embedded/answer.c"]:
         suite.holds(f"the package has {name}", (top / name).is_file())
     compiler = shutil.which("gcc") or shutil.which("cc")
@@ -125,7 +125,7 @@ def parts(suite: Suite, top: Path) -> None:
 
 
 def live_links(suite: Suite, top: Path) -> None:
-    """Each link of a document of the package leads to a file of the package, and to a heading that it has."""
+    """Each link of a document of the package leads to a file of the package, and to an existing heading."""
     pages = sorted(top.rglob("*.md"))
     suite.holds("the package has documents", len(pages) > 10)
     for page in pages:
@@ -135,7 +135,7 @@ def live_links(suite: Suite, top: Path) -> None:
 
 
 def a_clone(suite: Suite, name: str) -> Path:
-    """A clone of what tools/package looks at, with names that are hard to a shell."""
+    """A clone of the files that tools/package reads, with names that are difficult for a shell."""
     tree = suite.folder / name
     (tree / "tools/packing").mkdir(parents=True)
     (tree / "embedded").mkdir()
@@ -173,7 +173,7 @@ def packed(suite: Suite, tree: Path, title: str, **how: Any) -> Tuple[str, Dict[
 
 @within(240)
 def package_of_a_clone(suite: Suite) -> None:
-    """A package has what git has, whatever the names are, and nothing else, and is the same under each umask."""
+    """A package has exactly git's files, whatever their names, and is the same under each umask."""
     tree = a_clone(suite, "clone")
     name, modes, texts = packed(suite, tree, "tools/package with names that are hard to a shell")
     suite.holds("it has the version", name.startswith("pespbench-1.2.3-"))
@@ -192,7 +192,7 @@ def package_of_a_clone(suite: Suite) -> None:
 
 
 def installed(suite: Suite, prefix: Path) -> None:
-    """What was installed works, by itself."""
+    """The installed files work on their own."""
     env = {"PESPBENCH": "", "PATH": f"{prefix / 'bin'}:/usr/bin:/bin"}
     came = called(suite, ["pespbench"], given=b"cost\n", env=env)
     suite.note("the installed program", {"status": 0, "standard output": b"cost 0\n"}, came)
@@ -211,7 +211,7 @@ def installed(suite: Suite, prefix: Path) -> None:
 
 @within(240)
 def pip(suite: Suite) -> None:
-    """`pip install ./python`, by Debian's Python where that has what pip builds with; nothing is fetched."""
+    """`pip install ./python`, by Debian's Python if that has pip's build tools; nothing is downloaded."""
     if run([SYSTEM, "-c", "import setuptools, wheel, pip"])["status"]:
         print("  pip was not tried: python3-pip, python3-setuptools and python3-wheel are not installed")
         return
@@ -252,7 +252,7 @@ def without_a_program(suite: Suite) -> None:
 
 @within(240)
 def packed_strangers(suite: Suite) -> None:
-    """What is no program or library of pespbench is neither packed nor installed, and is named."""
+    """A file that is not a program or library of pespbench is neither packed nor installed, and is named."""
     tree = a_clone(suite, "tree")
     (suite.folder / "to").mkdir()
     programs = {"true": b"#!/bin/sh\n", "another": b"#!/bin/sh\necho cost 1\n", "text": b"a text\n"}
@@ -280,7 +280,7 @@ def packed_strangers(suite: Suite) -> None:
 
 
 def refused_file(suite: Suite, title: str, path: Path, came: Came) -> None:
-    """The file is named, and nothing is made but folders."""
+    """The file is named, and nothing is made except folders."""
     told = f"{path} is no ".encode() in came["standard error"]
     made = [str(each) for each in (suite.folder / "to").rglob("*") if each.is_file()]
     suite.note(title, {"status": 1, "told": True, "made": []}, {"status": came["status"], "told": told, "made": made})

@@ -1,4 +1,4 @@
-"""The page: how it is put together, and its module in Node beside the program."""
+"""The page: its build, and its module in Node compared with the program."""
 
 import base64
 import hashlib
@@ -44,7 +44,7 @@ Version <span id="version">NUMBER</span>.
 </script>
 """
 MODULE = b"\0asm"
-# Node's deflate has 63 48 2c ce 05 00 for it: the digits 31 77 23 14 81, and of what is left 1 51 50.
+# Node's deflate returns 63 48 2c ce 05 00: the digits 31 77 23 14 81, and for the rest 1 51 50.
 PACKED = "V@NE{1po"
 # By openssl, of each of the two scripts.
 NAMES = ["sha256-hT+tTpMv85LFqUQAQLIj9xrWYS+kTjHFpIe3GcaLvLc=", "sha256-UMiZTiQr0FF55ddnk1Z5lOwLZaLuS6v607IsXWuuzbo="]
@@ -62,7 +62,7 @@ def sources(suite: Suite, name: str, **changed: str) -> Path:
 
 
 def has_esbuild() -> bool:
-    """Whether pages can be made; if not, it says so."""
+    """Whether pages can be built; if not, it says so."""
     found = shutil.which("esbuild") is not None
     if not found:
         print("  no page was made: esbuild is not installed")
@@ -84,7 +84,7 @@ def module_or_fault(text: str) -> Union[bytes, str]:
 
 
 def page(suite: Suite) -> None:
-    """A page has its styles, scripts and module in it, and its policy lets just these scripts run."""
+    """A page contains its styles, scripts and module, and its policy permits only these scripts."""
     if not has_esbuild():
         return
     came = refused(sources(suite, "plain"))
@@ -113,7 +113,7 @@ def page(suite: Suite) -> None:
 
 
 def by_script(digits: List[str]) -> List[bytes]:
-    """What page/module.js reads of digits."""
+    """The bytes that page/module.js reads from digits."""
     runs = "const { bytesOfDigits } = require(process.argv[1]);"
     runs += "console.log(JSON.stringify(JSON.parse(process.argv[2]).map(each => [...bytesOfDigits(each)])))"
     words = ["node", "-e", runs, str(TOP / "page/module.js"), json.dumps(digits)]
@@ -121,13 +121,13 @@ def by_script(digits: List[str]) -> List[bytes]:
 
 
 def made_with(given: Path, path: Path) -> str:
-    """What is told where a page is made anew of a module or a page, with the commands of a folder alone."""
+    """The output of a build from a module or a page, with only the commands of a folder."""
     words = [sys.executable, str(TOP / "tools/page"), "--check", "--with", str(given)]
     return subprocess.run(words, capture_output=True, text=True, check=False, env={"PATH": str(path)}).stdout
 
 
 def page_packing(suite: Suite) -> None:
-    """Deflated bytes stand in the page in digits that mean nothing in a script, and are read again by Python and in the page."""
+    """Deflated bytes are in the page as digits without meaning in a script, and are read again by Python and by the page."""
     draw = random.Random(4_200)
     table = [b"", b"\xff" * 8, *(draw.randbytes(length) for length in range(1, 40))]
     digits = list(map(in_digits, table))
@@ -152,7 +152,7 @@ def page_packing(suite: Suite) -> None:
         suite.holds(f"a page without zopfli: {came}", came.endswith("1 passed, 0 failed\n"))
 
 
-# Modules of which the first one stands on both others, and the second on the third.
+# Modules of which the first one imports both others, and the second the third.
 OF_MODULES = INDEX + "<!-- modules: third -->\n<!-- modules: first -->\n"
 MODULES = {
     "script__first_js": "// Imports.\n\nimport { two } from './second.js';\nimport {\n  Three,\n} from './third.js';\n\n/** What is told.\n * @type {number[]} */\nglobalThis.told = [two(), new Three().number]; // Here.\n",
@@ -169,14 +169,14 @@ MADE_OF_MODULES = """<script data-modules=third>
 
 
 def ran(scripts: List[str]) -> Any:
-    """What is told where scripts were run one after another."""
+    """The output of scripts that run one after another."""
     runs = "for (const text of JSON.parse(process.argv[1])) require('vm').runInThisContext(text); console.log(JSON.stringify(told));"
     return json.loads(subprocess.run(["node", "-e", runs, json.dumps(scripts)], capture_output=True, text=True, check=True).stdout)
 
 
 def page_scripts(suite: Suite) -> None:
-    """Modules are put in order into scripts that run, whose names are in the policy, without comments and needless blanks; what is
-    no such module is refused."""
+    """Modules are combined in order into scripts that run, whose hashes are in the policy, without comments and needless blanks;
+    an invalid module is refused."""
     if not has_esbuild():
         return
     came = refused(sources(suite, "modules", index_html=OF_MODULES, **MODULES))
@@ -241,15 +241,15 @@ class Node:
         self.process.wait()
 
 
-# So many lines are played, and so many runs are given too little memory, each so often.
+# The number of lines that are played, and of runs with too little memory.
 LINES = 10_000
 SHORT_RUNS, TIMES = 40, 6
-# So many bits has the least memory for blocks that is left, and the most.
+# The limits of the bits of the memory that is left for blocks.
 BITS = 12, 21
 
 
 def same_bytes(suite: Suite, node: Node) -> None:
-    """Drawn runs have the program's replies, as whole runs and by sessions, and nothing is left after either."""
+    """Random runs have the program's replies, as whole runs and by sessions, and all memory is freed after either."""
     draw, lines = random.Random(4_100), 0
     for number in itertools.count():
         if lines >= LINES:
@@ -264,13 +264,13 @@ def same_bytes(suite: Suite, node: Node) -> None:
 
 
 def is_short(whole: bytes, came: Dict[str, Any]) -> bool:
-    """Whether memory is wanted in a run, whose replies are then some first bytes of all."""
+    """Whether a run is out of memory; its replies are then a prefix of all."""
     is_wanted = came["ending"]["status"] in (5, 6) or came["ending"]["reason"] == 11
     return is_wanted and whole.startswith(came["replies"])
 
 
 def little_memory(suite: Suite, node: Node) -> None:
-    """With less and less memory a run is answered as the program does, or tells that it found none."""
+    """With less and less memory a run is answered like the program, or reports that it is out of memory."""
     draw, wanted_some = random.Random(4_101), 0
     for number in range(SHORT_RUNS):
         asked = drawn_run(draw)
@@ -286,9 +286,9 @@ def little_memory(suite: Suite, node: Node) -> None:
 
 
 def endings(suite: Suite, node: Node) -> None:
-    """Runs that end otherwise."""
+    """Runs that end with a fault."""
     empty = Asked(10, b"", b"", b"", b"")
-    # One of them is no whole number.
+    # One of them is not a whole number.
     refused_periods: List[Any] = [0, 1, 1_441, 65_536, -3, 2.5, 1_450]
     for period in refused_periods:
         came = node.answer(empty._replace(period=period, commands=b"cost\n"))

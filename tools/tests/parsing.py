@@ -1,4 +1,4 @@
-"""Lines and what they ask for, as docs/FORMATS.md says; tests/model.py answers them."""
+"""Lines and their meaning, as docs/FORMATS.md defines them; tests/model.py answers them."""
 
 import re
 from typing import Dict, List, Optional, Tuple
@@ -41,7 +41,7 @@ EDITS = list(COMMANDS)[:10]
 
 
 class Fault(Exception):
-    """What is wrong with a line."""
+    """The fault of a line."""
 
 
 def parse(line: bytes) -> Optional[Tuple[str, List[int]]]:
@@ -64,7 +64,7 @@ def parse(line: bytes) -> Optional[Tuple[str, List[int]]]:
 
 
 def command_of(line: bytes) -> Tuple[str, List[int]]:
-    """The same of a line that is neither blank nor a comment."""
+    """The same for a line that is neither blank nor a comment."""
     command = parse(line)
     assert command is not None
     return command

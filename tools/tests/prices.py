@@ -1,4 +1,4 @@
-"""Prices of sessions, beside the program's optimum after `fix` or `span`. For the group `embedded`."""
+"""Prices of sessions, compared with the program's optimum after `fix` or `span`. For the group `embedded`."""
 
 import random
 from pathlib import Path
@@ -17,7 +17,7 @@ PICTURE = b"     #\n" * 7 + b"----##----\n    ^\n0\nat best 4, at worst 5\n"
 
 
 def price_of(price: Callable[[int, int, int], Priced], number: int, value: int) -> Tuple[int, int]:
-    """State and cost at the end, by calls of twice the nodes each time; no cost if another one equaled the lower bound before."""
+    """State and cost at the end, by calls with twice the nodes each time; no cost if another one equaled the lower bound before."""
     least = []
     for step in range(40):
         state, cost, bound, *_ = price(number, value, 2**step)
@@ -28,7 +28,7 @@ def price_of(price: Callable[[int, int, int], Priced], number: int, value: int) 
 
 
 def least_costs(suite: Suite, rows: List[Row], edits: Sequence[Tuple[str, str]]) -> List[Tuple[int, int]]:
-    """The same by the program, with each edit in turn, which the other line takes back."""
+    """The same by the program, with each edit in turn, which the other line undoes."""
     lines = "".join(f"{edit}\noptimum\n{back}\n" for edit, back in edits)
     activities, fixed = (suite.file(name, text) for name, text in zip(NAMES, (rows_of(rows), FIXED)))
     replies = run([suite.program, "--fixed", fixed, activities], given=lines.encode())["standard output"].split(b"\n")
@@ -37,7 +37,7 @@ def least_costs(suite: Suite, rows: List[Row], edits: Sequence[Tuple[str, str]])
 
 
 def drawn_prices(suite: Suite, library: Library) -> None:
-    """A price is the least cost after the edit, and asking for it changes nothing."""
+    """A price is the least cost after the edit, and requesting it changes nothing."""
     draw = random.Random(82)
     for number in range(5):
         rows = drawn_activities(draw)

@@ -1,4 +1,4 @@
-"""The model's domains and optima, which are found quickly, beside what trying everything gives, at short periods."""
+"""The model's domains and optima, which are computed quickly, compared with those by enumeration, at short periods."""
 
 import itertools
 import random
@@ -10,12 +10,12 @@ from tests.parsing import EDITS
 from tests.streams import drawn_lines
 
 NETWORKS = 150
-# Of the networks that are drawn, those with more timetables are left out.
+# Random networks with more timetables are left out.
 MOST_TIMETABLES = 20_000
 
 
 def tried_rows(network: model.Model) -> Dict[int, Set[int]]:
-    """The domains, by pairs that are taken away one by one as long as one of them lacks a partner."""
+    """The domains, by removing pairs one by one as long as one of them lacks a partner."""
     rows = {event: {residue for residue in range(network.period) if network.admits(event, residue)} for event in network.events}
     changed = True
     while changed:
@@ -40,7 +40,7 @@ def tried_best(network: model.Model) -> Optional[Tuple[int, Dict[int, int]]]:
 
 
 def drawn_network(draw: random.Random) -> model.Model:
-    """What drawn edits leave at a period of 2 to 12."""
+    """The result of random edits at a period of 2 to 12."""
     network = model.Model(draw.randint(2, 12))
     for line in drawn_lines(draw, network.period, 12):
         if line.decode().startswith(tuple(EDITS)):

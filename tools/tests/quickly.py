@@ -1,4 +1,4 @@
-"""The tests that want no proof, a few parts at once."""
+"""The tests that need no proof, a few parts at once."""
 
 import argparse
 import os
@@ -21,29 +21,29 @@ from tests.harness import TOP
 from tests.module_program import MODULE
 
 CRATES = ["pesp_tests_search", "pesp_tests_core", "pesp_tests_text", "pesp_tests_shell"]
-# What these groups try is not the module's: the built program's memory, the library in process, the module beside the
-# program, and the time that a start takes alone.
+# These groups do not test the module: the built program's memory, the library in process, the module compared with
+# the program, and the time of a start.
 PROGRAM_ALONE = ["want_of_memory", "memory_of_commands", "embedded", "page_module", "module_rows", "module_streams"]
 PROGRAM_ALONE += ["look_for_sources", "documents_of_what_is_built"]
-# The module starts more slowly than the program, and other parts run beside a group.
+# The module starts more slowly than the program, and other parts run at the same time.
 PATIENCE = "4"
-# Those that take longest, which begin first: so none of them runs alone at the end.
+# The longest ones, which start first, so that none of them runs alone at the end.
 LONGEST = ["the program's rows and streams", "the page in a browser", "python_why", "pesp_tests_text", "pesp_tests_shell"]
 LONGEST += ["python_variants", "python_files", "damaged_files", "pesp_tests_core", "drawn_streams"]
-# What some groups want beside Node.
+# The commands that some groups need besides Node.
 MORE = {"python_browser": "browser"}
-# The Debian packages of what parts want, and of what some cases of a whole run want, which are left out without it.
+# The Debian packages that parts need, and those of cases of a whole run, which are skipped without them.
 PACKAGES = {"node": "nodejs", "browser": "chromium"}
 OF_CASES = {"mypy": "mypy", "pyflakes3": "pyflakes3", "tsc": "node-typescript", "eslint": "eslint", "gcc": "gcc", "wasm2c": "wabt"}
 COUNTS = re.compile(r"(\d+) passed(?:, (\d+) failed)?")
 
 
-# How many cases passed, how many failed, and what was said.
+# The numbers of passed and failed cases, and the output.
 Counts = Tuple[int, int, str]
 
 
 class Part(NamedTuple):
-    """A part of the tests: what it wants on the path, and what gives its counts and what it says."""
+    """A part of the tests: the commands that it needs, and the function that returns its counts and its output."""
 
     name: str
     wants: List[str]
@@ -60,7 +60,7 @@ def called(words: Sequence[object], folder: Path = TOP) -> Tuple[int, str]:
 
 
 def counted(words: Sequence[object], folder: Path = TOP) -> Counts:
-    """The counts that a command tells last; one that fails and tells no failure is one."""
+    """The counts in a command's last line; one that fails without reporting a failure counts as one."""
     status, output = called(words, folder)
     found = COUNTS.findall(output)
     passed, failed = (int(number or 0) for number in found[-1]) if found else (int(status == 0), 0)
@@ -111,7 +111,7 @@ def timed(part: Part) -> Tuple[int, int, str, float]:
 
 
 def set_up(wanted: Collection[str], is_whole: bool) -> None:
-    """Installs the commands that are missing, where that is allowed, or names their packages."""
+    """Installs the missing commands, where that is allowed, or names their packages."""
     commands = {each: package for each, package in PACKAGES.items() if each in wanted and not is_there(each)}
     for command, package in {**commands, **(OF_CASES if is_whole else {})}.items():
         name = package if command == "browser" else command

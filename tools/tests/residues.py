@@ -1,4 +1,4 @@
-"""Sets of residues of a period as numbers: the bit of a residue is set where the set has it."""
+"""Sets of residues of a period as numbers: the bit of a residue is set if the set contains it."""
 
 from typing import Iterable, List
 
@@ -19,13 +19,13 @@ def listed(bits: int) -> List[int]:
 
 
 def moved(bits: int, step: int, period: int) -> int:
-    """Each residue moved on by the step, around the period."""
+    """Each residue shifted by the step, around the period."""
     step %= period
     return (bits << step | bits >> (period - step)) & ((1 << period) - 1)
 
 
 def spread(bits: int, first: int, width: int, period: int) -> int:
-    """Each residue moved on by each step from `first` to `first + width`."""
+    """Each residue shifted by each step from `first` to `first + width`."""
     spread_bits, done = moved(bits, first, period), 0
     while done < min(width, period - 1):
         step = min(done + 1, width - done)
@@ -35,5 +35,5 @@ def spread(bits: int, first: int, width: int, period: int) -> int:
 
 
 def run_of(first: int, length: int, period: int) -> int:
-    """So many residues, one after the other around the period."""
+    """This many residues, one after the other around the period."""
     return spread(1 << first, 0, length - 1, period) if length else 0

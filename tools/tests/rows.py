@@ -92,7 +92,7 @@ def too_many_times(suite: Suite) -> None:
 
 
 def long_periods(suite: Suite) -> None:
-    """Above 120 a network may have the fewer events and activities the longer the period is."""
+    """Above 120 a network may have fewer events and activities the longer the period is."""
     for period in [121, 720, GREATEST_PERIOD]:
         words, events, activities = ["--period", str(period)], most_events(period), most_activities(period)
         loops = b"".join(loop(number, number) for number in range(events + 1))

@@ -1,4 +1,4 @@
-"""What a check writes, computed here by the rules of docs/FORMATS.md and docs/RULES.md and without the program.
+"""The output of a check, computed here by the rules of docs/FORMATS.md and docs/RULES.md and without the program.
 
 tools/test_program compares the program with `check`, for the bytes of three files, and with `replies`, for rows.
 """
@@ -18,12 +18,12 @@ MARK = b"\xef\xbb\xbf"
 # The numbers of a row of a file, of which an activity has six.
 Row = Tuple[int, ...]
 Times = Dict[int, int]
-# What reads a field, and the numbers that it may be.
+# The pattern of a field, and its range.
 Column = Tuple[Callable[[int, bytes, range], int], range]
 
 
 class Checked(TypedDict):
-    """What a check gives."""
+    """The result of a check."""
 
     status: int
     output: bytes
@@ -31,14 +31,14 @@ class Checked(TypedDict):
 
 
 class Faulty(Exception):
-    """The fault of a row, as it is told."""
+    """The text of the fault of a row."""
 
 
 # The records of a file
 
 
 def records(text: bytes) -> Iterator[List[bytes]]:
-    """The records: each a list of its fields, with quotes undone and no blanks trimmed."""
+    """The records: each a list of its fields, unquoted and untrimmed."""
     text = text.removeprefix(MARK)
     separator = b";" if b";" in text else b","
     field = re.compile(rb'"([^"]*(?:""[^"]*)*)"?([^%b\r\n]*)|([^%b\r\n]*)' % (separator, separator))
@@ -76,7 +76,7 @@ def rows(text: bytes) -> Iterator[Tuple[int, List[bytes]]]:
         first = False
 
 
-# What a row stands for
+# The meaning of a row
 
 
 def number(field: int, text: bytes, limits: range) -> int:
@@ -110,7 +110,7 @@ def values(fields: Sequence[bytes], columns: Sequence[Column]) -> Row:
 
 
 def read(name: str, text: bytes, take: Callable[[List[bytes]], None]) -> None:
-    """Hands the fields of each row on, and tells the first row that has a fault."""
+    """Passes the fields of each row on, and reports the first faulty row."""
     for place, fields in rows(text):
         try:
             take(fields)
@@ -141,7 +141,7 @@ def read_activities(period: int, text: bytes) -> Tuple[List[Row], Set[int]]:
 
 
 def read_events(name: str, text: bytes, refuse: Callable[[int, Times], None]) -> Times:
-    """The times of a file, one for each event; `refuse` tells what such a file refuses besides."""
+    """The times of a file, one for each event; `refuse` returns the additional faults of such a file."""
     times: Times = {}
 
     def take(fields: List[bytes]) -> None:
@@ -155,7 +155,7 @@ def read_events(name: str, text: bytes, refuse: Callable[[int, Times], None]) ->
     return times
 
 
-# What a check gives
+# The result of a check
 
 
 def replies(period: int, activities: Sequence[Row], fixed: Mapping[int, int], times: Mapping[int, int]) -> bytes:
@@ -177,7 +177,7 @@ def replies(period: int, activities: Sequence[Row], fixed: Mapping[int, int], ti
 
 
 def check(period: int, activities: bytes = b"", fixed: bytes = b"", times: bytes = b"") -> Checked:
-    """The exit status, and what goes to standard output and to standard error, for the bytes of the files."""
+    """The exit status, standard output and standard error, for the bytes of the files."""
 
     def absent(event: int, _: Times) -> None:
         if event not in events:

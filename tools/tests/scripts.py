@@ -1,4 +1,4 @@
-"""Scripts given as commands, and written again."""
+"""Scripts sent as commands, and dumped again."""
 
 import random
 from typing import Iterable, Mapping, Tuple
@@ -9,7 +9,7 @@ from tests.rules import Row
 
 
 def script_of(period: int, events: Iterable[int], windows: Mapping[int, Tuple[int, int]], activities: Iterable[Row]) -> str:
-    """The script of an instance, by its own account of the form; a window is a first residue and a length, by event."""
+    """The script of an instance, by an independent definition of the form; a window is a first residue and a length, by event."""
     lines = [f"add event {event}" for event in sorted(events)]
     for event, (first, length) in sorted(windows.items()):
         lines.append(f"fix {event} {first}" if length == 1 else f"window {event} {first} {length}")
@@ -41,7 +41,7 @@ def drawn_script(draw: random.Random) -> Tuple[int, str, str]:
 
 
 def dumped(suite: Suite, name: str, period: int, script: str, wanted: str) -> None:
-    """The program takes a script line by line, and what it dumps then is the script of what came of it."""
+    """The program accepts a script line by line, and its dump is then the script of the result."""
     edits = [line for line in script.splitlines() if line.strip() and not line.startswith("#")]
     given = script.rstrip("\n") + "\ndump\n"
     suite.case(name, ["--period", str(period)], given=given.encode(), output=("ok\n" * len(edits) + wanted).encode())
@@ -65,7 +65,7 @@ def scripts(suite: Suite) -> None:
 
 
 def most_at_long_periods(suite: Suite) -> None:
-    """At 121 and at the greatest period the commands that come after as many events and activities as there may be."""
+    """At 121 and at the greatest period the commands after the greatest numbers of events and activities."""
     for period in [121, GREATEST_PERIOD]:
         events, activities = most_events(period), most_activities(period)
         rows = [(number, number % events, number * 7 % events, 0, period - 1, 1) for number in range(activities)]

@@ -1,5 +1,5 @@
-"""Searches of sessions in numbers, beside the lines `try` and `optimum` of the program and of other sessions. For the group
-`embedded`."""
+"""Searches of sessions in numbers, compared with the lines `try` and `optimum` of the program and of other sessions. For
+the group `embedded`."""
 
 import ctypes
 import random
@@ -19,14 +19,14 @@ DRAWN = 60
 SEARCHES = {b"try %d" % limit: limit for limit in [0, 1, 2, 5, 20, 100, 1000]}
 NOTHING_YET, BEST_SO_FAR, OPTIMUM, NO_TIMETABLE = range(4)
 WORDS = {"stopped": BEST_SO_FAR, "optimum": OPTIMUM}
-# An activity for each pair of new events: more independent cycles than the search by cycles takes, and none that it can do without.
+# An activity for each pair of new events: more independent cycles than the search by cycles accepts, none of them redundant.
 TOO_MANY: List[Row] = [(number, *ends, 0, 58, 1) for number, ends in enumerate(combinations(range(100, 147), 2), 1000)]
-# What is known before a search.
+# The state before a search.
 NOTHING: Searched = (NOTHING_YET, 0, 0, [])
 
 
 class Answer(TypedDict):
-    """What a reply to `try` or `optimum` tells."""
+    """The contents of a reply to `try` or `optimum`."""
 
     state: int
     cost: int
@@ -53,14 +53,14 @@ def with_searches(draw: random.Random, asked: Asked) -> Asked:
 
 
 def meets_all(library: Library, times: Numbers) -> Tuple[bool, Number]:
-    """Whether the times meet everything, and what they cost; they are the working timetable then."""
+    """Whether the times meet everything, and their cost; they are the working timetable then."""
     for event, time in zip(library.events(), times):
         library.ask(b"time %d %d" % (event, time))
     return library.ask(b"violations") == b"violations 0\n", library.cost()
 
 
 def judged(suite: Suite, title: str, found: Searched, apart: Library) -> None:
-    """A bound that the optimum keeps, and times that meet everything at the cost; `apart` has the same instance."""
+    """A bound not above the optimum, and times that meet everything at the cost; `apart` has the same instance."""
     state, cost, bound, times = found
     if state in (BEST_SO_FAR, OPTIMUM):
         suite.note(f"{title}: times", {"meet all, cost": (True, cost)}, {"meet all, cost": meets_all(apart, times)})
@@ -72,7 +72,8 @@ def judged(suite: Suite, title: str, found: Searched, apart: Library) -> None:
 
 
 def is_further(before: Searched, after: Searched) -> bool:
-    """Whether a search of the same instance tells no dearer timetable and no lower bound than the one before it, and ends once."""
+    """Whether a search of the same instance returns no dearer timetable and no lower bound than the one before it, and ends once.
+    """
     (state, cost, bound, _), (state_after, cost_after, bound_after, _) = before, after
     if state >= OPTIMUM:
         return before == after
@@ -80,7 +81,7 @@ def is_further(before: Searched, after: Searched) -> bool:
 
 
 def drawn_searches(suite: Suite, by_lines: Library, by_number: Library, apart: Library) -> None:
-    """A search goes on from the one before it, and leaves all that is asked but the optimum as it was."""
+    """A search resumes the one before it, and changes no other reply but the optimum's."""
     draw = random.Random(71)
     for number in range(DRAWN):
         asked = with_searches(draw, drawn_run(draw))
@@ -121,7 +122,7 @@ def drawn_activities(draw: random.Random) -> List[Row]:
 
 
 def steps_of(library: Library, nodes: int) -> List[Searched]:
-    """What searches of so many nodes come to, one after the other, up to the end; of more where the least cost is known."""
+    """The results of searches with this many nodes, one after the other, up to the end; with more once the least cost is known."""
     found = [library.search(nodes)]
     while found[-1][0] < OPTIMUM and len(found) < 2000:
         state, cost, bound, _ = found[-1]
@@ -131,7 +132,7 @@ def steps_of(library: Library, nodes: int) -> List[Searched]:
 
 
 def searches_in_steps(suite: Suite, library: Library) -> None:
-    """Calls of one size are one search: each is further than the one before, and the last one tells the optimum."""
+    """Calls of one size are one search: each is further than the one before, and the last one returns the optimum."""
     draw = random.Random(73)
     bounds: List[int] = []
     for number in range(5):
@@ -151,7 +152,7 @@ def searches_in_steps(suite: Suite, library: Library) -> None:
 
 
 def going_on(suite: Suite, library: Library) -> None:
-    """A search that stops says that the next one goes on, but with too many cycles, and where it has ended."""
+    """A stopped search reports that the next one resumes it, unless there are too many cycles, or it has ended."""
     rows = drawn_activities(random.Random(83))
     for name, activities, wanted in [("few cycles", rows, {1}), ("too many cycles", [*rows, *TOO_MANY], {0})]:
         library.open(60, rows_of(activities), b"", b"")
@@ -165,7 +166,7 @@ def going_on(suite: Suite, library: Library) -> None:
 
 
 def edited_between(suite: Suite, library: Library, apart: Library) -> None:
-    """An edit ends a search: what is told after it is of the network as it is then. Times do not."""
+    """An edit ends a search: later results are of the network then. Times do not."""
     draw = random.Random(79)
     for number in range(10):
         rows = drawn_activities(draw)
@@ -181,7 +182,7 @@ def edited_between(suite: Suite, library: Library, apart: Library) -> None:
 
 
 def uses(suite: Suite, library: Library) -> None:
-    """What a search leaves serves later lines and searches, and nothing of the working timetable is told."""
+    """The result of a search is used by later lines and searches, and nothing of the working timetable is returned."""
 
     def line(text: bytes) -> str:
         return library.ask(text).decode()
@@ -213,7 +214,7 @@ def uses(suite: Suite, library: Library) -> None:
         suite.note(f"searches: {title}", {"came": wanted}, {"came": call()})
 
 
-# The system's memory, of which a request is refused when so many have been served; none while the number is negative.
+# The system's memory, which refuses a request after this many; none while the number is negative.
 REFUSING = r"""
 #include <stddef.h>
 long requests_left = -1;
@@ -224,12 +225,12 @@ void *__wrap_malloc(size_t size) { return is_refused() ? NULL : __real_malloc(si
 void *__wrap_realloc(void *block, size_t size) { return is_refused() ? NULL : __real_realloc(block, size); }
 """
 
-# A ring of events, with a chord: what is found at once, and is not all at slack 0.
+# A ring of events, with a chord: its timetable is found at once, and not all of it is at slack 0.
 RING = [(1, 1, 2, 3, 9, 2), (2, 2, 3, 4, 8, 1), (3, 3, 4, 1, 7, 5), (4, 4, 5, 6, 12, 1), (5, 5, 1, 2, 6, 3), (6, 2, 5, 3, 8, 4)]
 
 
 def refused_once(suite: Suite, library: Library, served: int) -> bool:
-    """Whether a search is refused memory after so many requests; then nothing changed, and with memory it answers as ever."""
+    """Whether a search is refused memory after this many requests; then nothing changed, and with memory it answers as usual."""
     left = ctypes.c_long.in_dll(library.loaded, "requests_left")
     library.open(10, rows_of(RING), b"", b"1; 7\n")
     before = library.times(), library.ask(b"dump")
@@ -250,7 +251,7 @@ def refused_once(suite: Suite, library: Library, served: int) -> bool:
 
 
 def refused_memory(suite: Suite, module: ModuleType, compiler: str, heap: Path, archive: Path) -> None:
-    """Each request for memory of a search is refused in turn."""
+    """Each memory request of a search is refused in turn."""
     source, path = suite.file("refusing.c", REFUSING.encode()), suite.folder / "librefusing.so"
     words = [compiler, "-shared", "-fPIC", "-Wl,--wrap=malloc", "-Wl,--wrap=realloc", "-o", path, source, heap]
     made = run([*words, "-Wl,--whole-archive", archive, "-Wl,--no-whole-archive"], seconds=100)

@@ -1,5 +1,5 @@
-"""Sessions of the library in process: line by line they give what a run gives, what can be told of their use is told, and
-all memory comes back. For the group `embedded`."""
+"""Sessions of the library in process: line by line they return the same as a run, detectable misuse is reported, and all
+memory is freed. For the group `embedded`."""
 
 import ctypes
 import random
@@ -14,25 +14,25 @@ from tests.rules import Row, Times
 
 DRAWN = 200
 DONE, MEMORY, LONG_LINE, CLOSED, OPEN, NOT_ONE_LINE, REFUSED = 0, 6, 7, 10, 11, 12, 13
-# In the place of the time of an event without one.
+# Instead of the time of an event without one.
 NO_TIME = 65535
-# What a call tells in a number or in many, or the refusal in its place: the status, the number and the event.
+# The result of a call in a number or in many, or the refusal instead: the status, the number and the event.
 Number = Union[int, Tuple[int, ...]]
 Numbers = Union[List[int], Tuple[int, ...]]
-# What a search tells: its state, the cost, a lower bound, and the times or the refusal.
+# The result of a search: its state, the cost, a lower bound, and the times or the refusal.
 Searched = Tuple[int, int, int, Numbers]
 # State, cost and lower bound of a price, with the status of the call and the reason of a refusal.
 Priced = Tuple[int, int, int, int, int]
 
 
 class Session(ctypes.Structure):
-    """What a caller holds."""
+    """A caller's variables."""
 
     _fields_ = [("at", ctypes.c_void_p), ("is_open", ctypes.c_bool)]
 
 
 class Found(ctypes.Structure):
-    """How good the timetable is that a search tells."""
+    """The quality of the timetable of a search."""
 
     _fields_ = [
         ("cost", ctypes.c_uint64), ("lower_bound", ctypes.c_uint64), ("state", ctypes.c_uint32), ("goes_on", ctypes.c_uint32),
@@ -76,7 +76,7 @@ class Library:
         self.calls["pesp_close"](self.session)
 
     def ask(self, line: bytes, room: int = 1 << 20) -> bytes:
-        """The bytes in front of a room after a line; the rest of it stays as it was."""
+        """The bytes at the start of a buffer after a line; the rest of it is unchanged."""
         out = ctypes.create_string_buffer(b"." * room, room + 1)
         self.calls["pesp_ask"](self.session, line, len(line), out, room, self.told)
         shown = min(room, self.told.length)
@@ -84,7 +84,7 @@ class Library:
         return out.raw[:shown]
 
     def cost(self) -> Number:
-        """The cost, or what was there, with the status and the number and the event of a refusal."""
+        """The cost, or the earlier value, with the status and the number and the event of a refusal."""
         cost = ctypes.c_uint64(7)
         self.calls["pesp_cost"](self.session, cost, self.told)
         return cost.value if self.told.status == DONE else (cost.value, *self.refusal())
@@ -94,13 +94,13 @@ class Library:
         return self.told.status, self.told.reason, self.told.place
 
     def try_move(self, event: int, time: int) -> Number:
-        """What the cost would change by, or what was there and the refusal."""
+        """The change of the cost, or the earlier value and the refusal."""
         change = ctypes.c_int64(7)
         self.calls["pesp_try_move"](self.session, event, time, change, self.told)
         return change.value if self.told.status == DONE else (change.value, *self.refusal())
 
     def shown(self, name: str, kind: Any, given: Sequence[int], room: int, also: Sequence[ctypes.Structure] = ()) -> Numbers:
-        """The numbers in front of a room, or the refusal; the rest of it, and what is after it, stays as it was."""
+        """The numbers at the start of a buffer, or the refusal; the rest of it, and what is after it, is unchanged."""
         out, mark = (kind * (room + 1))(), 77
         out[:] = [mark] * (room + 1)
         self.calls[name](self.session, *given, out, room, *also, self.told)
@@ -120,7 +120,7 @@ class Library:
         return self.shown("pesp_domain", ctypes.c_uint8, [event], room)
 
     def search(self, nodes: int, room: int = 100) -> Searched:
-        """State, cost, lower bound and times, or what was there and the refusal."""
+        """State, cost, lower bound and times, or the earlier values and the refusal."""
         found = Found(7, 7, 7, 7)
         times = self.shown("pesp_search", ctypes.c_uint16, [nodes], room, also=[found])
         self.goes_on = found.goes_on
@@ -133,7 +133,7 @@ class Library:
         return self.price_by("pesp_price_tension", activity, tension, nodes)
 
     def price_by(self, name: str, *asked: int) -> Priced:
-        """State, cost and lower bound of a price, or what was there, with status and reason."""
+        """State, cost and lower bound of a price, or the earlier values, with status and reason."""
         found = Found(7, 7, 7, 7)
         self.calls[name](self.session, *asked, found, self.told)
         self.goes_on = found.goes_on
@@ -147,7 +147,7 @@ def lines_of(commands: bytes) -> List[bytes]:
 
 
 def asked_in_turn(library: Library, asked: Asked) -> Told:
-    """The replies of a session to each line in turn, and the fault with which it ends."""
+    """The replies of a session to each line in turn, and its final fault."""
     replies = b""
     if library.open(asked.period, asked.activities, asked.fixed, asked.times) == DONE:
         for number, line in enumerate(lines_of(asked.commands), start=1):
@@ -167,7 +167,7 @@ def drawn_sessions(suite: Suite, library: Library) -> None:
 
 
 def uses(suite: Suite, library: Library) -> None:
-    """What is told of a closed session, of one that is open, and of lines that are none; each leaves the session as it was."""
+    """The reports on a closed session, on one that is open, and on invalid lines; each leaves the session unchanged."""
 
     def ask(line: bytes, room: int = 1 << 20) -> Tuple[bytes, int]:
         return library.ask(line, room), library.told.status
@@ -223,7 +223,7 @@ def uses(suite: Suite, library: Library) -> None:
 
 
 def drawn_network(draw: random.Random) -> Tuple[int, List[Row], Times]:
-    """A period, activities with loops and some side by side, and a time for each event."""
+    """A period, activities with loops and parallel ones, and a time for each event."""
     period, count = draw.choice([2, 7, 10, 60, 1440]), draw.randint(1, 6)
     names = draw.sample([*range(1, 9), 999_999_999], count)
     activities: List[Row] = []
@@ -236,7 +236,7 @@ def drawn_network(draw: random.Random) -> Tuple[int, List[Row], Times]:
 
 
 def drawn_moves(suite: Suite, library: Library) -> None:
-    """What a move would change the cost by is what it does change it by; some moves are kept."""
+    """The reported change of the cost by a move is the actual one; some moves are kept."""
     draw = random.Random(61)
     for number in range(DRAWN):
         period, activities, times = drawn_network(draw)
@@ -257,19 +257,19 @@ def drawn_moves(suite: Suite, library: Library) -> None:
 
 
 def domain_in(bits: Sequence[int]) -> List[str]:
-    """The residues of bits, as a reply lists them."""
+    """The residues of bits, as in a reply."""
     return [str(residue) for residue in range(8 * len(bits)) if bits[residue // 8] >> residue % 8 & 1]
 
 
 def least_without(library: Library) -> Tuple[Dict[str, Optional[int]], Dict[str, Optional[int]]]:
-    """The least event without a time, by the times and by the cost; None where there is none."""
+    """The least event without a time, by the times and by the cost; None if there is none."""
     by_times = [event for event, time in zip(library.events(), library.times()) if time == NO_TIME]
     cost = library.cost()
     return {"by the times": by_times[0] if by_times else None}, {"by the times": cost[-1] if isinstance(cost, tuple) else None}
 
 
 def drawn_numbers(suite: Suite, library: Library) -> None:
-    """After each line of drawn sessions events, times and domains are as replies tell them, also of numbers that are no event."""
+    """After each line of random sessions events, times and domains are those of replies, also for numbers that are not events."""
     draw = random.Random(67)
     for number in range(DRAWN):
         asked = drawn_run(draw)
@@ -291,7 +291,7 @@ def drawn_numbers(suite: Suite, library: Library) -> None:
         library.close()
 
 
-# Two threads, each with sessions of its own, one after another: opened, asked, and closed.
+# Two threads, each with sessions of its own, one after another: opened, queried, and closed.
 MANY = r"""
 #include "pespbench.h"
 #include <pthread.h>

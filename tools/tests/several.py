@@ -1,4 +1,4 @@
-"""Regions in one network: the first timetable of least cost is that of each region, one beside the other."""
+"""Regions in one network: the first timetable of least cost consists of those of the regions."""
 
 import sys
 from typing import Dict, List, Sequence, Tuple
@@ -27,7 +27,7 @@ def drawn(seed: int, widths: Tuple[int, int]) -> List[Row]:
 
 
 def beside(regions: Sequence[List[Row]], shared: int = 0) -> List[Row]:
-    """All of them in one network, each with its events after those of the one before, of which it shares so many."""
+    """All of them in one network, each with its events after those of the one before, of which it shares this many."""
     rows: List[Row] = []
     for region in regions:
         before = max((max(row[:2]) for row in rows), default=shared) - shared
@@ -36,7 +36,7 @@ def beside(regions: Sequence[List[Row]], shared: int = 0) -> List[Row]:
 
 
 def best(suite: Suite, rows: Sequence[Row], name: str, *lines: bytes) -> Best:
-    """What `optimum` tells after some lines."""
+    """The reply to `optimum` after some lines."""
     text = "".join("; ".join(map(str, (number, *row))) + "\n" for number, row in enumerate(rows, 1))
     words = [suite.program, "--period", str(PERIOD), suite.file(name, text.encode())]
     reply = run(words, given=b"\n".join([*lines, b"optimum"]))["standard output"].decode().splitlines()[len(lines) :]
@@ -73,8 +73,8 @@ def a_region_let_go(suite: Suite) -> None:
 
 @within(60)
 def a_region_held_all_over(suite: Suite) -> None:
-    """A region of 380 events with eight fixed times ends in seconds, and in minutes where their domains make cycles: no clause says
-    that they do not. Its cost is what other solvers tell."""
+    """A region of 380 events with eight fixed times ends in seconds, and in minutes if their domains make cycles: no clause
+    guarantees that they do not. Its cost is that of other solvers."""
     lines = 22
     rows, times = piece_of(draw(1, True, NARROW, lines), lines)
     fixed = some_fixed(times)

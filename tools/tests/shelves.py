@@ -1,4 +1,4 @@
-"""The two shelves of wrong bodies, and the tool that tries the second, with a toolchain that says what it is told."""
+"""The two shelves of wrong bodies, and the tool that tries the second, with a toolchain that prints given texts."""
 
 import re
 import shutil
@@ -10,13 +10,13 @@ from tests.harness import TOP, Suite, run
 from tests.start_tree import SYSTEM
 from wrong_bodies import FIRST, KINDS, PROOF, SECOND, Unread, applied, breaks_of, edits, refusals
 
-# The gate tries each edit of the first shelf in each run, and a change at the bottom pays for all of them.
+# The gate tries each edit of the first shelf in each run, and after a change at the bottom all of them.
 MOST_ON_THE_FIRST = 240
-# So many there were on one shelf. An edit that leaves the first goes to the second, and none is lost.
+# The number that was once on one shelf. An edit that leaves the first goes to the second, and none is lost.
 LEAST_ON_BOTH = 492
 
-# It proves all crates but one, and says of each edit that stands where it looks what the edit's own last line says. It knows
-# the two commands that it is given, and no other words.
+# It proves all crates but one, and prints for each edit in its place the edit's own last line. It knows the two given
+# commands, and no other words.
 FAKE_RT = """#!/bin/sh
 echo "$@" in "$PWD" >>"$FAKE/log"
 case $# in
@@ -40,7 +40,7 @@ PLAIN = "refused, as it must be: src/lib.rt:3:1: error: open goal"
 BRACKETS = "refused, as it must be (only by a limit of the prover): src/lib.rt:3:1"
 BAD = "BAD EDIT: an 'old:' text is in src/lib.rt 0 times, and not once"
 PROVED = "NOT REFUSED: the crate is still proved with this edit"
-# What the toolchain says of each edit, by crate, shelf and name.
+# The toolchain's text for each edit, by crate, shelf and name.
 SHELVES = {
     ("low", FIRST, "gate"): PROVED,
     ("low", SECOND, "plain"): PLAIN,
@@ -55,7 +55,7 @@ SHELVES = {
 
 
 def shelves(suite: Suite) -> None:
-    """What the shelves hold, which no proof says."""
+    """Conditions on the shelves that no proof covers."""
     first, second = edits(TOP, FIRST), edits(TOP, SECOND)
     suite.holds(f"the first shelf has at most {MOST_ON_THE_FIRST} wrong bodies", len(first) <= MOST_ON_THE_FIRST)
     suite.holds(f"both shelves have at least {LEAST_ON_BOTH}", len(first) + len(second) >= LEAST_ON_BOTH)
@@ -68,7 +68,7 @@ def shelves(suite: Suite) -> None:
 
 
 def faults_of(edit: Path) -> List[str]:
-    """Why the edit cannot be applied, if it cannot: the gate tells that of the first shelf alone, and goes on."""
+    """Why the edit cannot be applied, if it cannot: the gate reports that for the first shelf only, and continues."""
     try:
         applied(edit)
     except Unread as fault:
@@ -77,7 +77,7 @@ def faults_of(edit: Path) -> List[str]:
 
 
 def tree_of(suite: Suite) -> Path:
-    """A tree with the tool, crates with edits, and the toolchain that says what it is told."""
+    """A tree with the tool, crates with edits, and the toolchain that prints given texts."""
     top = suite.folder / "tree"
     for (crate, shelf, name), told in SHELVES.items():
         folder = top / "crates" / crate / shelf
@@ -103,7 +103,7 @@ def tried(suite: Suite, top: Path, name: str, names: Sequence[str], wanted: Sequ
 
 
 def second_shelf(suite: Suite) -> None:
-    """What the tool prints and counts; what it tries stands on a copy, and the tree is as it was."""
+    """The output and counts of the tool; it works on a copy, and the tree does not change."""
     top = tree_of(suite)
     before = files_of(top)
     low = [f"low/remark.edit: {BRACKETS}", "low: 2 of 2 refused"]
@@ -122,7 +122,7 @@ def second_shelf(suite: Suite) -> None:
     suite.note("what is tried is a copy", {"in the tree": []}, {"in the tree": here})
 
 
-# What the toolchain says of edits of the crate low, and where each refusal comes from.
+# The toolchain's texts for edits of the crate low, and the causes of their refusals.
 REFUSALS = [
     ("clause", "refused, as it must be: note: src/lib.rt:3:1: it is not proved that what the function ensures holds when it returns"),
     ("clause", "refused, as it must be: ./proofs/f/Answers.antt:9:5: error: `returns`: `search`: no proof of `a ≡ b` was found"),
@@ -142,7 +142,7 @@ ANSWERS = "pub returns-clause-ok : goal.returns-clause-ok\nreturns-clause-ok g c
 
 
 def kinds(suite: Suite) -> None:
-    """Where refusals come from, as far as what the toolchain prints and the proofs tell."""
+    """The causes of refusals, by the toolchain's output and the proofs."""
     top = suite.folder / "kinds"
     (top / "crates/low/proofs/f").mkdir(parents=True)
     (top / "crates/low/proofs/f/Answers.antt").write_text(ANSWERS)
@@ -158,7 +158,7 @@ def kinds(suite: Suite) -> None:
 
 
 def gate(suite: Suite) -> None:
-    """What ends the gate: a refusal at a proof."""
+    """A refusal at a proof fails the gate."""
     top = suite.folder / "gate"
     (top / "tools").mkdir(parents=True)
     for name in ["sort_refusals", "wrong_bodies.py"]:

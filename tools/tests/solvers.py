@@ -1,4 +1,4 @@
-"""The formulation by cycles of the Python package, beside what trying all timetables gives, on drawn networks."""
+"""The formulation by cycles of the Python package, compared with enumeration, on random networks."""
 
 import random
 import re
@@ -15,9 +15,9 @@ from tests.harness import Suite, run, within
 from tests.rules import Row
 
 NETWORKS = 200
-# So many of them are tried with the basis that stands in where narrow cycles are not integral.
+# The number of networks with the basis that is used if narrow cycles are not integral.
 OTHERS = 50
-# The solver is not asked for more networks when so many seconds are over.
+# The solver gets no more networks after this many seconds.
 SECONDS = 10
 SOLVERS: Dict[str, Tuple[Callable[[str], List[str]], bytes]] = {
     "glpsol": (lambda model: ["glpsol", "--lp", model, "-o", "/dev/stdout"], rb"Status: +(?:INTEGER )?OPTIMAL\nObjective: +cost = (\S+)"),
@@ -26,7 +26,8 @@ SOLVERS: Dict[str, Tuple[Callable[[str], List[str]], bytes]] = {
 
 
 def drawn_network(draw: random.Random) -> Tuple[int, List[Row], List[Tuple[int, int]]]:
-    """A period, activities and fixed times: in parts, with loops, parallel activities and spans past the period. Most have a timetable."""
+    """A period, activities and fixed times: in parts, with loops, parallel activities and spans past the period. Most have a
+    timetable."""
     period, events, is_met = draw.randint(2, 12), draw.randint(1, 5), draw.randrange(4) > 0
     times = [draw.randrange(period) for _ in range(events)]
     rows: List[Row] = []
@@ -41,7 +42,7 @@ def drawn_network(draw: random.Random) -> Tuple[int, List[Row], List[Tuple[int, 
 
 
 def costs_of(period: int, rows: Sequence[Row], fixed: Mapping[int, int], times: Mapping[int, int], events: Sequence[int]) -> Iterator[int]:
-    """The cost of each timetable that has these times, where the other events follow."""
+    """The cost of each timetable with these times, from which those of the other events follow."""
     known = [row for row in rows if row[1] in times and row[2] in times]
     slacks = [(times[last] - times[first] - lower) % period for _, first, last, lower, *_ in known]
     if any(slack > row[4] - row[3] for slack, row in zip(slacks, known)):
@@ -54,20 +55,20 @@ def costs_of(period: int, rows: Sequence[Row], fixed: Mapping[int, int], times: 
 
 
 def least_cost(period: int, rows: Sequence[Row], fixed: Sequence[Tuple[int, int]]) -> Optional[int]:
-    """The least cost of all timetables, or None where there is none. Where no time is fixed, all may be moved until the first is 0."""
+    """The least cost of all timetables, or None if there is none. If no time is fixed, all may be shifted until the first is 0."""
     events = sorted({event for row in rows for event in row[1:3]})
     return min(costs_of(period, rows, dict(fixed) or {events[0]: 0}, {}, events), default=None)
 
 
 def solved_cost(solver: str, path: Path) -> Optional[int]:
-    """The cost that a solver tells, or None where it found no timetable."""
+    """The cost in a solver's output, or None if it found no timetable."""
     command, told = SOLVERS[solver]
     found = re.search(told, run(command(str(path)))["standard output"])
     return round(float(next(filter(None, found.groups())))) if found else None
 
 
 def try_networks(suite: Suite, solver: str, title: str, numbers: Iterable[int], ends: float) -> None:
-    """The same least cost on drawn networks, as long as there is time."""
+    """The same least cost on random networks, as long as there is time."""
     path = suite.folder / "model.lp"
     for number in numbers:
         if time.monotonic() > ends:
@@ -80,7 +81,7 @@ def try_networks(suite: Suite, solver: str, title: str, numbers: Iterable[int], 
 
 
 def integral(suite: Suite) -> None:
-    """Independent over two, and yet with a determinant of 3: each of four arcs is left out by one cycle."""
+    """Independent modulo two, and yet with a determinant of 3: each of four arcs is missing from one cycle."""
     threes = [{place: 1 for place in range(4) if place != left} for left in range(4)]
     came = {"kept": len(independent(threes)), "integral": is_integral(threes, set())}
     suite.note("cycles that are no integral basis", {"kept": 4, "integral": False}, came)
@@ -88,7 +89,8 @@ def integral(suite: Suite) -> None:
 
 
 def ranges(suite: Suite) -> None:
-    """A slack of 25 against the cycle and one of 3 along it, at period 10; and a cycle of no slack that is no whole number of periods."""
+    """A slack of 25 against the cycle and one of 3 along it, at period 10; and a cycle of slack 0 that is not a whole number of
+    periods."""
     arcs = [Arc("along", 1, 2, 9, 3, 1), Arc("against", 1, 2, 2, 25, 1), Arc("still", 1, 1, 7, 0, 1)]
     suite.note("periods of a cycle", {"range": (7, -1, 1)}, {"range": range_of(arcs, {0: 1, 1: -1}, 10)})
     suite.note("periods that no slack makes", {"range": (7, 0, 1)}, {"range": range_of(arcs, {2: 1}, 10)})

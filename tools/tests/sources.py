@@ -1,4 +1,5 @@
-"""The text of the sources, held to docs/STYLE.md: clauses within their columns, and a word on each private field; and no links."""
+"""The text of the sources, compared with docs/STYLE.md: clauses within their columns, and a comment on each private field; and no
+links."""
 
 import re
 from pathlib import Path
@@ -7,7 +8,7 @@ from typing import Iterator, List, Tuple
 from tests.harness import TOP, Suite, run
 
 COLUMNS = 100
-# Of a hundred clauses so many may have a longer line.
+# Of a hundred clauses this many may have a longer line.
 LONG_ONES = 5
 
 CLAUSE = re.compile(r"^\s*(?:requires|ensures)(?: \w+)? \{")
@@ -35,7 +36,7 @@ def clauses_within_columns(suite: Suite) -> None:
 
 
 def silent_fields(path: Path) -> Iterator[str]:
-    """The private fields of a file's types that have no comment above them; one may stand above fields that follow each other."""
+    """The private fields of a file's types without a comment above them; one may be above consecutive fields."""
     end, told = None, False
     for number, line in enumerate(path.read_text().splitlines(), 1):
         head, field = STRUCT.match(line), FIELD.match(line)
@@ -50,7 +51,7 @@ def silent_fields(path: Path) -> Iterator[str]:
 
 
 def private_fields(suite: Suite) -> None:
-    """A field that only its crate sees has a line that says what holds of it."""
+    """A field that only its crate sees has a line with its invariant."""
     silent = [field for path in sources() for field in silent_fields(path)]
     suite.note("each private field has a comment", {"silent": []}, {"silent": silent})
 

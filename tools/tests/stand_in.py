@@ -26,7 +26,7 @@ LONGEST_FILE = 67_108_864
 
 
 class End(Exception):
-    """A fault that ends the run, as it is told."""
+    """The text of a fault that ends the run."""
 
 
 class Once(argparse.Action):
@@ -79,7 +79,7 @@ def read_file(name: str, path: Optional[str]) -> bytes:
 
 
 def opening(words: argparse.Namespace, texts: Dict[str, bytes]) -> model.Model:
-    """The model that the files open; what is wrong with them is told by the rules of a check."""
+    """The model of the files; their faults are found by the rules of a check."""
     checked = rules.check(words.period, **texts)
     if checked["error"]:
         raise End(checked["error"].decode().removeprefix("pespbench: ").rstrip("\n"))
@@ -98,7 +98,7 @@ def write(lines: Sequence[str]) -> None:
 
 
 def read_lines() -> Iterator[bytes]:
-    """The lines of standard input, each as soon as it is there, with its number."""
+    """The lines of standard input, each as soon as it arrives, with its number."""
     held, place = b"", 0
     while True:
         line, end, rest = held.partition(b"\n")
@@ -122,7 +122,7 @@ def read_lines() -> Iterator[bytes]:
 
 
 class StandIn:
-    """Answers lines; what is known of the optimum is kept, since `try` is then answered by it."""
+    """Answers lines; a known optimum is kept, since it answers `try`."""
 
     def __init__(self, bench: model.Model) -> None:
         self.bench = bench

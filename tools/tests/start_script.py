@@ -1,4 +1,4 @@
-"""The script that builds the program where it has to, and starts it."""
+"""The script that builds the program if necessary, and starts it."""
 
 import os
 import pathlib
@@ -18,7 +18,7 @@ WAITS = "another start is building the program; this one waits for it"
 
 
 def start_script(suite: Suite) -> None:
-    """When the script builds, and what it says."""
+    """When the script builds, and its messages."""
     tree = Tree(suite)
     no_toolchain = ["tools/pespbench: the program is not built, and there is no command rt to build it"]
     tree.start("no toolchain", 0, status=70, output=b"", tells=no_toolchain, PATH=SYSTEM)
@@ -88,16 +88,16 @@ def is_alive(process: int) -> bool:
 
 
 def broken_builds(suite: Suite) -> None:
-    """A build that is broken off ends its toolchain, and leaves nothing but what was there before."""
+    """An interrupted build ends its toolchain, and leaves only what existed before."""
     for name in ["SIGINT", "SIGTERM", "SIGHUP"]:
-        # Who starts the tests in the background of a script has SIGINT ignored, and a shell cannot trap it then.
+        # A script that starts the tests in the background ignores SIGINT, and a shell cannot trap it then.
         signal.signal(getattr(signal, name), signal.SIG_DFL)
         for has_program in (False, True):
             broken_off(suite, name, has_program)
 
 
 def broken_off(suite: Suite, name: str, has_program: bool) -> None:
-    """A signal to a start whose toolchain has made a part of the program, in the place of an older one or of none."""
+    """A signal to a start whose toolchain has made a part of the program, instead of an older one or of none."""
     folder = suite.folder / f"{name} {has_program}"
     folder.mkdir()
     tree = Tree(Suite(suite.program, folder, suite.tally))
@@ -119,10 +119,10 @@ def broken_off(suite: Suite, name: str, has_program: bool) -> None:
 
 
 def look_for_sources(suite: Suite) -> None:
-    """A start takes less than 20 ms more than the program, over as many files as there are sources here.
+    """A start takes less than 20 ms more than the program, with as many files as there are sources here.
 
-    Others work on the machine too, so the least of some starts is taken, and of more where it is above that. On a machine on
-    which the program here, a script of a line, takes more than a millisecond, it is 20 times as much.
+    The machine may be loaded, so the least of some starts counts, and of more if it is above that. On a machine on which
+    the program here, a script of a line, takes more than a millisecond, it is 20 times as much.
     """
     tree = Tree(suite)
     for name in ["src", "specs", "proofs"]:

@@ -1,4 +1,4 @@
-"""A tree for the script that builds and starts the program, with a toolchain that only notes what it is asked."""
+"""A tree for the script that builds and starts the program, with a toolchain that only records its calls."""
 
 import os
 import shutil
@@ -10,7 +10,7 @@ from tests.harness import SECONDS, TOP, Suite, run
 
 SYSTEM = "/usr/bin:/bin"
 
-# It notes that it was called, and waits as long as it is told to, with a program that is half made.
+# It records its call, and waits as long as it is told to, with an incomplete program.
 FAKE_RT = """#!/bin/sh
 echo "$1 $$" >>"$FAKE/log"
 echo "crate pesp_base is proved" >&2
@@ -24,7 +24,7 @@ printf '#!/bin/sh\\necho ran in "$PWD" with "$@"\\n' >out/pespbench && chmod +x 
 """
 
 class Tree:
-    """A tree of its own with the script, a link to it, and the toolchain that notes."""
+    """A tree of its own with the script, a link to it, and the toolchain that records."""
 
     def __init__(self, suite: Suite) -> None:
         self.suite = suite
@@ -48,7 +48,7 @@ class Tree:
         (self.fake / name).chmod(0o755)
 
     def say(self, word: str, is_said: bool) -> None:
-        """Lets the toolchain do otherwise, or no more: a build fails, waits, or has a source changed meanwhile."""
+        """Changes the toolchain's behavior, or resets it: a build fails, waits, or has a source changed meanwhile."""
         if is_said:
             (self.fake / word).write_text("")
         else:
@@ -60,7 +60,7 @@ class Tree:
         return log.read_text().splitlines() if log.exists() else []
 
     def change(self, name: str) -> None:
-        """Changes a file of the program's crate, some time after what was built."""
+        """Changes a file of the program's crate, some time after the build."""
         path = self.crate / name
         path.write_text("changed")
         at = time.time() + 0.02
@@ -68,7 +68,7 @@ class Tree:
         time.sleep(0.04)
 
     def start(self, name: str, builds: int, status: int = 0, output: Optional[bytes] = None, tells: Sequence[str] = (), **others: str) -> None:
-        """Starts the script; standard error has the texts of `tells`, in this order, and nothing if there are none."""
+        """Starts the script; standard error has the texts of `tells`, in this order, and is empty if there are none."""
         come = run([self.link, "a ", "b"], cwd=self.suite.folder, env={**self.environment, **others})
         told = come["standard error"].decode()
         places = [told.find(text) for text in tells]
@@ -80,7 +80,7 @@ class Tree:
         return f"ran in {self.suite.folder} with a  b\n".encode()
 
     def begin(self) -> "subprocess.Popen[bytes]":
-        """A start that goes on beside the test."""
+        """A start that runs during the test."""
         words, pipe = [str(self.link), "a ", "b"], subprocess.PIPE
         return subprocess.Popen(words, cwd=self.suite.folder, env=self.environment, stdin=subprocess.DEVNULL, stdout=pipe, stderr=pipe)
 

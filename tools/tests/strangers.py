@@ -1,10 +1,10 @@
-"""What a stranger puts into a file, its name or a line of commands reaches neither standard output nor standard error."""
+"""The contents and names of strangers' files, and their lines of commands, reach neither standard output nor standard error."""
 
 from tests.file_cases import TWO, TWO_TIMES
 from tests.harness import NAMES, TOP, Suite, missing, record, unreadable, words_for
 from tests.replies import TWO_REPLIES
 
-# What a terminal, a shell or a log may act on.
+# Texts on which a terminal, a shell or a log may act.
 STRANGE = {
     "a color": b"\x1b[31m",
     "a cleared screen": b"\x1b[2J\x1b[H",
@@ -76,7 +76,7 @@ def in_commands(suite: Suite) -> None:
 
 
 def as_files(suite: Suite) -> None:
-    """Files that are no text at all, and folders."""
+    """Files that are not text, and folders."""
     error = "wrong number of fields"
     for title, content in {"all bytes": bytes(range(256)), "no text": b"\x7fELF\x02\x01\x01" + b"\0" * 9_999}.items():
         path = suite.file(title, content)

@@ -1,4 +1,4 @@
-"""Whole streams: the longest line, the greatest number of lines, and drawn lines beside the model."""
+"""Whole streams: the longest line, the greatest number of lines, and random lines compared with the model."""
 
 import copy
 import random
@@ -65,7 +65,7 @@ def number_of_lines(suite: Suite) -> None:
 
 @within(300)
 def many_cheap_lines(suite: Suite) -> None:
-    """1,000,000 lines in bulk; the time is a generous one, against work that grows with what was read."""
+    """1,000,000 lines in bulk; the time is generous, against work that grows with the number of lines."""
     how = {"seconds": 120}
     output = b"refused 2 no event 1\n" * MOST_LINES
     suite.case("1,000,000 refusals", [], given=b"untime 1\n" * MOST_LINES, output=output, **how)
@@ -73,16 +73,16 @@ def many_cheap_lines(suite: Suite) -> None:
     suite.case("1,000,000 faults", [], given=b"x\n" * MOST_LINES, output=output, **how)
 
 
-# Drawn lines
+# Random lines
 
 
 def drawn_number(draw: random.Random, count: int) -> int:
-    """A number of an event or activity: most often one that is there."""
+    """A number of an event or activity: usually an existing one."""
     return draw.randint(1, count) if draw.randrange(12) else draw.choice([0, 9, 77, 999_999_999])
 
 
 def drawn_length(draw: random.Random, period: int) -> int:
-    """The length of a window: of every length that there is, and now and then of none."""
+    """The length of a window: of every valid length, and sometimes an invalid one."""
     return draw.randint(1, period) if draw.randrange(10) else draw.choice([0, period + 1, 65_535])
 
 
@@ -109,7 +109,7 @@ def drawn_command(draw: random.Random, period: int, name: str) -> str:
 
 
 def drawn_line(draw: random.Random, period: int) -> bytes:
-    # The events and activities that are there stay few, and few of them are fixed, so that there is often an optimum.
+    # There are always few events and activities, and few of them are fixed, so that there is often an optimum.
     often = ["add event", "add activity", "span", "weight", "window", "time", "try", "optimum", "adopt", "domains"]
     name = draw.choice([*COMMANDS, *often, "add event", "add activity"])
     line = drawn_command(draw, period, name)
@@ -120,7 +120,7 @@ def drawn_line(draw: random.Random, period: int) -> bytes:
 
 
 def drawn_lines(draw: random.Random, period: int, count: int) -> List[bytes]:
-    """Lines that most often begin with a network of a few events and activities, one of which may have a window."""
+    """Lines that usually begin with a network of a few events and activities, one of which may have a window."""
     lines = [drawn_line(draw, period) for _ in range(count)]
     if draw.randrange(10) == 0:
         return lines
@@ -136,12 +136,12 @@ def drawn_lines(draw: random.Random, period: int, count: int) -> List[bytes]:
 
 
 def searches(line: bytes) -> bool:
-    """Whether the line looks for a timetable, which at a long period takes seconds."""
+    """Whether the line searches for a timetable, which at a long period takes seconds."""
     return line.lower().split()[:1] in ([b"optimum"], [b"adopt"], [b"try"])
 
 
 def compared(bench: model.Model, lines: Sequence[bytes], output: bytes) -> Optional[Dict[str, object]]:
-    """The first line whose reply is not a legal one, with what was wanted and what came; None where there is none."""
+    """The first line whose reply is not legal, with the expected and the actual reply; None if there is none."""
     rest = output.decode("latin-1").split("\n")[:-1]
     is_known = False
     for place, line in enumerate(lines, 1):
@@ -158,7 +158,7 @@ def compared(bench: model.Model, lines: Sequence[bytes], output: bytes) -> Optio
 
 
 def knows(before: Optional[model.Model], after: model.Model, line: bytes, reply: Sequence[str]) -> bool:
-    """Whether the optimum is known after a line; `before` is the model before it where it was known there, and else None."""
+    """Whether the optimum is known after a line; `before` is the model before it if it was known there, and otherwise None."""
     try:
         name, numbers = parse(line) or ("", [])
     except Fault:
@@ -190,7 +190,7 @@ def drawn_streams(suite: Suite) -> None:
 
 @within(300)
 def long_streams(suite: Suite) -> None:
-    """Streams at periods above 120, about where a count takes one byte more too."""
+    """Streams at periods above 120, around which a count takes one byte more."""
     draw = random.Random(1440)
     for number in range(2):
         for period in [121, 255, 256, 257, 720, GREATEST_PERIOD - 1, GREATEST_PERIOD]:

@@ -1,4 +1,4 @@
-"""The script that starts the program, where it is asked to make one without a proof; the stand-in answers."""
+"""The script that starts the program, told to make one without a proof; the stand-in answers."""
 
 import os
 import shutil
@@ -12,7 +12,7 @@ from tests.start_tree import Tree
 
 NOT_PROVED = b"tools/pespbench: made of the page's module: nothing of what it answers is proved\n"
 MAKING = b"tools/pespbench: making the program of the page's module, once, which takes a minute\n"
-# It notes that it was called, and makes the stand-in, or fails.
+# It records its call, and makes the stand-in, or fails.
 FAKE_NATIVE = """import os, pathlib, sys
 open(os.environ["FAKE"] + "/made", "a").write("m")
 if os.path.exists(os.environ["FAKE"] + "/fails"):
@@ -51,7 +51,7 @@ def case(tree: Tree, name: str, words: Sequence[object], told: bytes = NOT_PROVE
 
 
 def unproved(suite: Suite) -> None:
-    """It is made once, by no toolchain, and anew where the page is newer; words, streams and statuses are the program's."""
+    """It is made once, without the toolchain, and again if the page is newer; words, streams and statuses are the program's."""
     tree = a_tree(suite)
     (suite.folder / "activities").write_bytes(TWO)
     two: List[object] = ["--period", "10", "activities"]
@@ -71,7 +71,7 @@ def unproved(suite: Suite) -> None:
 
 
 def unproved_lines(suite: Suite) -> None:
-    """Each reply comes before the next line is given."""
+    """Each reply arrives before the next line is sent."""
     tree = a_tree(suite)
     words, pipe = [str(tree.link), "--unproved"], subprocess.PIPE
     with subprocess.Popen(words, env=tree.environment, stdin=pipe, stdout=pipe, stderr=subprocess.DEVNULL) as process:
@@ -83,7 +83,7 @@ def unproved_lines(suite: Suite) -> None:
         process.stdin.close()
 
 
-# In the place of Debian's tool: it notes its words, and puts the command there at the second call of two.
+# Instead of Debian's tool: it records its words, and installs the command at the second call of two.
 FAKE_APT = """#!/bin/sh
 echo "$@" >>"$FAKE/apt"
 [ "$1" = install ] && [ -e "$FAKE/list" ] && printf '#!/bin/sh\\n' >"$FAKE/wanted" && chmod +x "$FAKE/wanted"
@@ -93,7 +93,7 @@ echo "$@" >>"$FAKE/apt"
 
 
 def wanted_commands(suite: Suite) -> None:
-    """A command that is not there is installed by the superuser, and else its package is named."""
+    """A missing command is installed by the superuser, and otherwise its package is named."""
     fake, want = suite.folder / "fake", TOP / "tools/packing/want"
     fake.mkdir()
     env = {"PATH": f"{fake}:/usr/bin:/bin", "FAKE": str(fake)}
@@ -112,7 +112,7 @@ def wanted_commands(suite: Suite) -> None:
 
 
 def bare(suite: Suite, *hidden: str) -> Dict[str, str]:
-    """An environment of the commands that a Debian has from the first, and no others, and of a user who may not install any."""
+    """An environment with only the commands of a basic Debian, and a user who may not install any."""
     folder = suite.folder / "-".join(["bare", *hidden])
     folder.mkdir()
     for name in {"sh", "cat", "dirname", "env", "readlink", "python3"} - set(hidden):
@@ -125,7 +125,7 @@ def bare(suite: Suite, *hidden: str) -> Dict[str, str]:
 
 
 def first_commands(suite: Suite) -> None:
-    """The two commands at the top of README name what they lack, where nothing may be installed."""
+    """The two commands at the top of README name what they lack, if nothing may be installed."""
     come = run([TOP / "tools/pespbench", "--module"], env=bare(suite), given=b"domains\n")
     told = b"tools/pespbench: the page's module runs, under Node: nothing of what it answers is proved\n"
     told += b"tools/pespbench: there is no command node (apt install nodejs)\n"

@@ -1,4 +1,4 @@
-"""The sources of the workbench, compiled as plain Rust by tools/search_without_proof, tell what the program tells."""
+"""The sources of the workbench, compiled as plain Rust by tools/search_without_proof, return the program's replies."""
 
 import random
 import shutil

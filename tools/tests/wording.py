@@ -1,4 +1,4 @@
-"""The words of documents, held to docs/STYLE.md; tools/avoided_words lists where they differ."""
+"""The words of documents, compared with docs/STYLE.md; tools/avoided_words lists the differences."""
 
 from tests.harness import TOP, Suite
 from wording import Use, avoided, documents, uses
@@ -26,7 +26,7 @@ def avoided_words(suite: Suite) -> None:
 
 
 def avoided_words_found(suite: Suite) -> None:
-    """Words are found in prose alone, whatever their case."""
+    """Words are found only in prose, whatever their case."""
     words = avoided(STYLE)
     suite.note("the words of a style", {"words": {"told": "returns", "tells": "returns", "so many": "the number"}}, {"words": words})
     suite.note("where a text has them", {"uses": [Use(1, "told"), Use(5, "so many")]}, {"uses": uses(TEXT, words)})

@@ -1,5 +1,5 @@
-"""What documents say of the tree, held against it: their words, links and paths, the crates, the definition files of the
-theorem, the functions of the walks, and the wrong bodies. And that proofs do not say one thing twice."""
+"""The statements of documents about the tree, compared with it: their words, links and paths, the crates, the definition
+files of the theorem, the functions of the walks, and the wrong bodies. And that proofs do not state one thing twice."""
 
 import re
 from pathlib import Path
@@ -9,7 +9,7 @@ from statements import proved_twice, statements
 from tests.harness import TOP, Suite
 from tests.shelves import MOST_ON_THE_FIRST
 
-# The words that a document should have; it may have a tenth more.
+# The target lengths of documents in words; a tenth more is allowed.
 TARGETS = {
     "README.md": 1500,
     "docs/PROMISES.md": 1400,
@@ -65,13 +65,13 @@ LINK = re.compile(r"\]\(([^)#\s]*)(?:#([^)\s]*))?\)")
 PART = re.compile(r"(?<![\w/.~-])((?:src|specs|proofs)/[\w/]+\.(?:rt|antt))")
 STEP = re.compile(r"`(crates/[\w/]+\.rt)`: ((?:`\w+`(?:, | and | with )?)+)")
 
-# The most words of all documents together, HISTORY left out.
+# The greatest number of words of all documents together, without HISTORY.
 MOST_WORDS = 27000
 COUNTED = ["README.md", "docs/*.md", "crates/*/README.md", "page/README.md", "python/README.md"]
 
 
 def pages() -> List[Path]:
-    """Each document of the tree, but for what a build leaves."""
+    """Each document of the tree, except those of a build."""
     return sorted(path for path in TOP.rglob("*.md") if not {"out", ".git", "build"} & set(path.relative_to(TOP).parts))
 
 
@@ -90,7 +90,7 @@ def document_words(suite: Suite) -> None:
 
 
 def numbers_told_once(suite: Suite) -> None:
-    """A number that changes with the tree stands in one document, and is right there."""
+    """A number that changes with the tree is in one document, and is right there."""
     told = [str(page.relative_to(TOP)) for page in pages() if f"at most {MOST_ON_THE_FIRST} in all" in page.read_text()]
     suite.note("who says how many wrong bodies the first shelf may have", {"pages": ["docs/STYLE.md"]}, {"pages": told})
     kit = [str(page.relative_to(TOP)) for page in pages() if re.search(r"proved with rattle-kit-\w+", page.read_text())]
@@ -100,7 +100,7 @@ def numbers_told_once(suite: Suite) -> None:
 
 
 def links_of(page: Path) -> List[Tuple[Path, str]]:
-    """The files that a page links to, each with a heading of it or none."""
+    """The files to which a page links, each with its heading, if any."""
     found = [(link, heading) for link, heading in LINK.findall(page.read_text()) if "://" not in link]
     return [(page.parent / link if link else page, heading) for link, heading in found]
 
@@ -136,7 +136,7 @@ def parts_of(page: Path) -> List[Path]:
 
 
 def document_paths(suite: Suite) -> None:
-    """Each link of a document leads to a file, and each path that it names is there."""
+    """Each link of a document leads to a file, and each path in it exists."""
     for page in pages():
         named = [*(path for path, _ in links_of(page)), *paths_of(page), *parts_of(page)]
         lost = sorted({str(path) for path in named if not path.exists()})
@@ -174,7 +174,7 @@ def definition_files() -> List[Tuple[str, str, str]]:
 
 
 def cited_by(crate: str, name: str) -> List[Tuple[str, str]]:
-    """The definition files of this tree that a definition file cites; declarations of code are none."""
+    """The definition files of this tree that a definition file cites; declarations of code do not count."""
     text = text_of(f"crates/{crate}/specs/{name}.antt")
     cited = re.findall(r"^(?:pub )?use Rattle\.(pesp\w*)\.specs\.(\w+)", text, re.M)
     return [(crate, name) for crate, name in cited if name != "declared"]
@@ -223,7 +223,7 @@ def sources_of(crate: str) -> str:
 
 
 def promises(suite: Suite) -> None:
-    """Each contract that PROMISES names is a word of its crate, and each wrong body stands on a shelf of its crate."""
+    """Each contract that PROMISES names is a word of its crate, and each wrong body is on a shelf of its crate."""
     rows = list(promised())
     suite.holds("PROMISES has its table", len(rows) > 30)
     texts = {crate: sources_of(crate) for contracts, _ in rows for crate, _ in contracts}
@@ -234,7 +234,7 @@ def promises(suite: Suite) -> None:
             suite.holds(f"{crate} has the wrong body {name}", list((TOP / "crates" / crate).glob(f"*/{name}.edit")))
 
 
-# Two files of proofs. What is said twice has other names in the second; all else only looks alike.
+# Two files of proofs. Repeated statements have other names in the second; all others only look alike.
 FIRST_PROOFS = """use Rattle.std.proofs.Common.{◌≡◌, ℕ, ◌<◌, refl}
 
 pub record IsSmall (n : ℕ) : Type 0 where
@@ -283,7 +283,7 @@ kept period r below = below
 
 
 def statements_proved_once(suite: Suite) -> None:
-    """What one file of proofs says, others cite; and what is said twice in two files is found."""
+    """A statement of one file of proofs is cited by others; and one that is stated in two files is found."""
     found = statements(TOP)
     suite.holds("there are statements", len(found) > 2000)
     twice = [[f"{each.path.relative_to(TOP)}:{each.line}" for each in same] for same in proved_twice(found)]

@@ -57,9 +57,9 @@ pub struct Best {
 /// Why a call did nothing, in the numbers of pespbench.h.
 #[derive(Clone, Copy, Debug, PartialEq, Eq)]
 pub struct Fault {
-    /// Of `pesp_status`.
+    /// A value of `pesp_status`.
     pub status: u32,
-    /// Of `pesp_reason` for a fault of a file, or the number of a refusal; otherwise 0.
+    /// A value of `pesp_reason` for a fault of a file, or the number of a refusal; otherwise 0.
     pub reason: u32,
     /// The record of a file or the event; otherwise 0.
     pub place: u64,
@@ -103,11 +103,11 @@ fn all<T: Copy + Default>(mut call: impl FnMut(*mut T, usize, *mut Told)) -> Res
 /// An open session. It may move to another thread, and one thread uses it at a time.
 pub struct Session {
     raw: Raw,
-    // For replies: no call takes one that is longer.
+    // The buffer for replies: no call needs a longer one.
     room: Vec<u8>,
 }
 
-// Nothing of a session is bound to a thread, and none of its calls takes a shared one.
+// A session is not bound to a thread, and none of its calls takes a shared reference.
 unsafe impl Send for Session {}
 
 impl Session {
@@ -119,7 +119,7 @@ impl Session {
             is_open: false,
         };
         let Files { activities, fixed, times } = files;
-        // The slices are there during the call, and session and answer are this function's own.
+        // The slices live during the call, and session and answer are this function's own.
         unsafe {
             pesp_open(
                 period,
@@ -142,7 +142,7 @@ impl Session {
 
     fn asked(&mut self, line: &[u8]) -> Result<usize, Fault> {
         let mut told = Told::default();
-        // The line and the room are there during the call, and do not meet.
+        // The line and the room live during the call, and do not overlap.
         unsafe { pesp_ask(&mut self.raw, line.as_ptr(), line.len(), self.room.as_mut_ptr(), self.room.len(), &mut told) };
         told.ended()?;
         Ok(told.length as usize)
@@ -151,7 +151,7 @@ impl Session {
     /// The bytes of the program's reply to a line: the line without its line feed, the reply with them.
     pub fn ask(&mut self, line: &str) -> Result<&[u8], Fault> {
         let mut length = self.asked(line.as_bytes())?;
-        // Only a question has a longer reply, and asked again it has the same.
+        // Only a query has a longer reply, and repeated it has the same.
         if self.room.len() < length {
             self.room.resize(length, 0);
             length = self.asked(line.as_bytes())?;
@@ -224,7 +224,7 @@ impl Session {
 
 impl Drop for Session {
     fn drop(&mut self) {
-        // Gives all memory of the session back.
+        // Frees all memory of the session.
         unsafe { pesp_close(&mut self.raw) };
     }
 }
@@ -304,7 +304,7 @@ mod tests {
                     return Ok(());
                 }
             }
-            // A time does not begin it anew.
+            // A time does not restart it.
             session.ask("time 2 5")?;
         }
         panic!("a thousand nodes do not settle two trains");
@@ -322,7 +322,7 @@ mod tests {
 
     #[test]
     fn a_stop_tells_whether_the_search_goes_on() -> Result<(), Fault> {
-        // With more than a thousand cycles each call begins anew.
+        // With more than a thousand cycles each call restarts.
         for (more, wanted) in [(0, true), (1_001, false)] {
             let activities = each_with_each(more);
             let mut session = Session::open(10, Files { activities: &activities, ..Files::default() })?;

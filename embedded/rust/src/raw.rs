@@ -1,8 +1,8 @@
-//! The calls on a session and what goes in, as `pespbench.h` declares them, which says what they mean.
+//! The calls on a session and their types, as declared in `pespbench.h`, which documents them.
 
 use std::ffi::c_void;
 
-/// What a call tells, in the numbers of the header.
+/// The report of a call, in the numbers of the header.
 #[repr(C)]
 #[derive(Clone, Copy, Debug, Default)]
 pub struct Told {
@@ -13,7 +13,7 @@ pub struct Told {
     pub field: u32,
 }
 
-/// What a search has come to, in the numbers of the header.
+/// The result of a search, in the numbers of the header.
 #[repr(C)]
 #[derive(Clone, Copy, Debug, Default)]
 pub struct Found {
@@ -23,7 +23,7 @@ pub struct Found {
     pub goes_on: u32,
 }
 
-/// A session, of which only the library reads or writes what is in it. One that is not open is closed.
+/// A session, whose contents only the library reads or writes. One that is not open is closed.
 #[repr(C)]
 pub struct Raw {
     pub at: *mut c_void,

@@ -24,7 +24,7 @@ const summary = view => {
 
 export const NETGRAPH_NOTE = 'Minutes stand to the right of the track as the train goes: in bold where it leaves, plain where it arrives.';
 
-// The first page, with the netgraph where there are lines.
+// The first page, with the netgraph if there are lines.
 const front = view => {
   if (!view.lines.length) return element('section', { class: 'front' }, ...summary(view));
   const { drawn, note } = netgraphOf(view);

@@ -28,7 +28,7 @@ const FRACTION = /^[+-]?[0-9]+[.,][0-9]*[1-9][0-9]*$/;
 // The columns of a file of activities or of times that have numbers of events and activities, followed by those of minutes.
 const NUMBERS = { activities: 3, times: 1, fixed: 1, windows: 1 };
 
-// The text in place of a number.
+// The text instead of a number.
 const wordsFor = (kind, fields, place) => {
   const field = fields[place];
   if (FRACTION.test(field)) return `${field} is no whole number. Minutes are whole here: round it, or count half minutes, with twice the period.`;

@@ -34,7 +34,7 @@ const frameOf = ({ first, length }, period) => {
   return `M${period} 0H${first}V1H${period}M0 0H${end - period}V1H0`;
 };
 
-// The strip of an event without hands, as it is at present.
+// The present strip of an event, without handles.
 export const stripPicture = (view, event) => {
   const { period, windows } = view.network, time = view.times.get(event);
   return drawing('svg', { class: 'strip-picture', viewBox: `0 0 ${period} 1`, preserveAspectRatio: 'none', role: 'img', 'aria-label': `Possible minutes of ${eventName(event)}` },

@@ -8,7 +8,7 @@ from typing import Iterable, Iterator
 from pespbench.drawn.numbers import Numbers
 from pespbench.drawn.region import Region, RegionActivity
 
-# An activity of a circle, and 1 where the circle runs along it or -1 where it runs against it.
+# An activity of a circle, and 1 if the circle runs along it or -1 if it runs against it.
 Step = tuple[RegionActivity, int]
 # The greatest distance of a moved circle from a whole number of periods, if its width leaves room.
 MOST_MISSED = 6

@@ -21,14 +21,14 @@ def gather(bench: Bench, title: str, places: Optional[Mapping[str, Place]] = Non
     """The bench's network, working timetable and labels, by its replies.
 
     Args:
-        bench: is asked for domains, tensions, violations and cost.
+        bench: answers for domains, tensions, violations and cost.
         title: the title of the report.
-        places: where stations lie, x to the east and y to the north in any unit; where one is missing, they are laid out.
-        found: what a search for the best timetable answered, where there was one.
+        places: places of stations, x to the east and y to the north in any unit; if one is missing, they are laid out.
+        found: the result of a search for the best timetable, if there was one.
 
     Raises:
         Ended: the program ended.
-        Refused: the program refused for another reason than a missing time.
+        Refused: the program refused for a reason other than a missing time.
     """
     return {
         "title": shown(title),

@@ -30,15 +30,15 @@ def why(bench: Bench, hard: Optional[Collection[str]] = None, nodes: int = 2_000
     the rest is infeasible; then by searches.
 
     Args:
-        hard: kinds of activities, by the bench's labels, that are not to be changed; `fixed` are fixed times and windows.
-            They may be in the conflict, which has as few others as can be, and no mend changes them. By default they are
-            runs, dwells and headways, unless the conflict has nothing else.
+        hard: kinds of activities, by the bench's labels, that must not change; `fixed` are fixed times and windows. They may
+            be in the conflict, which has as few others as possible, and no repair changes them. By default they are runs,
+            dwells and headways, unless the conflict has nothing else.
         nodes: the nodes of each search of a part.
-        seconds: about the longest that is looked whether the whole network has a timetable, and as long again for mends.
-        lower: whether a mend may lower the least minutes of an activity too; else all keep them.
+        seconds: about the longest search for a timetable of the whole network, and as long again for repairs.
+        lower: whether a repair may also lower the minimum minutes of an activity.
 
     Raises:
-        Ended: the program ended, or gave no answer within so many seconds.
+        Ended: the program ended, or did not answer within `seconds`.
         ValueError: a number of nodes or seconds is not above 0, or no label has a kind.
     """
     if nodes < 1 or not seconds > 0:

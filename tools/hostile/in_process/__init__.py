@@ -1,1 +1,1 @@
-"""What the library in process does with the memory that it is lent and with threads, and what it answers then."""
+"""How the library in process uses memory and threads, and what it answers."""

@@ -1,7 +1,7 @@
-"""A caller of the library (caller.c), made for each way to watch what the library does.
+"""A caller of the library (caller.c), compiled for each instrument.
 
-The library's own code is watched too: the toolchain's clang compiles its LLVM module, which tools/library keeps, with the checks
-of a sanitizer, and gcc links them with its own. Under memcheck the library is the very one that callers link.
+The library's own code is instrumented too: the toolchain's clang compiles its LLVM module, which tools/library keeps, with the
+checks of a sanitizer, and gcc links them with its own. Under memcheck the library is the same that callers link.
 """
 
 import os
@@ -18,14 +18,14 @@ from tests.harness import TOP
 HERE = Path(__file__).resolve().parent
 HEADERS = TOP / "embedded"
 C_FLAGS = ["-std=gnu11", "-g", "-O1", "-Wall", "-Wextra", "-Werror", "-fno-omit-frame-pointer", "-pthread"]
-# heap.c asks memory.c, which counts and refuses.
+# heap.c requests its memory from memory.c, which counts and refuses.
 WATCHED = [f"-D{name}=watched_{name}" for name in ("malloc", "realloc", "free")]
 WATCHED_NAMES = "void *watched_malloc(unsigned long); void *watched_realloc(void *, unsigned long); void watched_free(void *);\n"
 
 
 class Way(NamedTuple):
-    """A way to watch: flags of the C compiler, and the sanitizer of the library's own code, with its attribute of a function and
-    what is called then; the words before those of the caller; and in how many threads the library is called."""
+    """An instrument: flags of the C compiler, and the sanitizer of the library's own code, with its function attribute and its
+    runtime calls; the words before those of the caller; and the number of threads that call the library."""
 
     flags: List[str]
     sanitizer: str
@@ -41,12 +41,12 @@ WAYS: Dict[str, Way] = {
     "threads": Way(["-fsanitize=thread"], "thread", "sanitize_thread", b"__tsan_read", [], 2),
     "memcheck": Way([], "", "", b"", MEMCHECK, 1),
 }
-# What a sanitizer finds ends the caller.
+# A finding of a sanitizer ends the caller.
 SETTINGS = {"ASAN_OPTIONS": "exitcode=98:detect_stack_use_after_return=1", "TSAN_OPTIONS": "exitcode=97:halt_on_error=1", "UBSAN_OPTIONS": "print_stacktrace=1"}
 
 
 class Caller(NamedTuple):
-    """How the caller is started, in how many threads it calls, and whether its library has prices."""
+    """The command of the caller, the number of its threads, and whether its library has prices."""
 
     words: List[object]
     env: Dict[str, str]
@@ -59,7 +59,7 @@ def compiler() -> Optional[str]:
 
 
 def runtime(name: str) -> str:
-    """The path of a library of the compiler, or its name alone where that is missing."""
+    """The path of a library of the compiler, or only its name if it is missing."""
     words = [str(compiler()), f"-print-file-name={name}"]
     return subprocess.run(words, capture_output=True, text=True, check=True).stdout.strip()
 
@@ -70,16 +70,16 @@ BARE = re.compile(r"^(define .*\)(?: (?:local_)?unnamed_addr)?)((?:(?!#\d)[^)\n]
 
 
 def with_attribute(text: str, attribute: str) -> str:
-    """The text of a module whose functions all have an attribute, by which a sanitizer looks at them."""
+    """The text of a module all of whose functions have an attribute, which makes a sanitizer instrument them."""
     return BARE.sub(rf"\1 {attribute}\2", GROUP.sub(rf"\1 {attribute}", text))
 
 
 def watched_library(folder: Path, name: str, way: Way) -> Path:
-    """The library as an object whose code a sanitizer watches."""
+    """The library as an object with a sanitizer's instrumentation."""
     clang, text, made = toolchain() / "toolchain/bin/clang", folder / f"{name}.ll", folder / f"{name}.o"
     run([clang, "-x", "ir", MODULE, "-S", "-emit-llvm", "-O0", "-Xclang", "-disable-llvm-passes", "-o", text])
     text.write_text(with_attribute(text.read_text(), way.attribute))
-    # -O1 took three minutes of a processor, and this takes 11 seconds.
+    # -O1 took three processor minutes, and this takes 11 seconds.
     run([clang, f"-fsanitize={way.sanitizer}", "-O0", "-fPIC", "-Wno-override-module", "-c", "-x", "ir", text, "-o", made])
     if way.called not in made.read_bytes():
         raise NotMade("the library's code is not watched: the clang of the toolchain has left the sanitizer out")
@@ -87,7 +87,7 @@ def watched_library(folder: Path, name: str, way: Way) -> Path:
 
 
 def library_for(folder: Path, name: str, given: Sequence[Path]) -> List[Path]:
-    """The library to link for a way, or what is given in its place."""
+    """The library to link for an instrument, or the given replacement."""
     if given:
         return list(given)
     if not MADE.exists() or not MODULE.exists():
@@ -102,7 +102,7 @@ def has_prices(library: Sequence[Path]) -> bool:
 
 
 def made_caller(folder: Path, name: str, library: Sequence[Path], more: Sequence[object] = (), title: str = "caller") -> Caller:
-    """The caller over a library, with more words for the compiler."""
+    """The caller over a library, with additional compiler arguments."""
     way, cc, prices = WAYS[name], compiler(), has_prices(library)
     program, heap = folder / f"{title}-{name}", folder / f"heap-{name}.o"
     names = folder / "watched.h"

@@ -1,4 +1,4 @@
-/* Carries out scripts of orders, each in a thread of its own, and writes what came of each call.
+/* Executes scripts of orders, each in a thread of its own, and writes the result of each call.
  *
  * usage: caller SCRIPT ANSWERS [SCRIPT ANSWERS]
  *
@@ -15,7 +15,7 @@
 #include <stdlib.h>
 #include <string.h>
 
-/* So many requests of a call are refused one by one, and then fewer and fewer of them. */
+/* This many requests of a call are refused one by one, and then fewer and fewer of them. */
 enum { SLOTS = 4, THREADS = 2, REFUSED_IN_TURN = 150 };
 
 struct work {
@@ -58,7 +58,7 @@ static void write_answer(FILE *answers, char kind, const struct answer *answer, 
     if (answer->shown != 0) fwrite(answer->room, 1, answer->shown, answers);
 }
 
-/* Another place in memory; what the first one held is of no use any more. */
+/* Moves a session to another place in memory; the first place is then unusable. */
 static void move_session(struct pesp_session **place) {
     struct pesp_session *other = block_of(sizeof *other);
     memcpy(other, *place, sizeof *other);
@@ -74,7 +74,7 @@ static bool is_open(struct pesp_session *session) {
     return told.status != PESP_CLOSED;
 }
 
-/* What is wrong after a call that was refused memory, if anything: it gives all back, and a session is as it was. */
+/* The fault after a call that was refused memory, if any: it must free everything, and leave a session unchanged. */
 static const char *fault_of(const struct order *order, struct pesp_session *session, bool was_open, uint8_t *before, size_t length, long held) {
     if (order->kind == 'o' && !was_open && is_open(session)) return "a session is open after a fault";
     if (!was_open) return held_blocks() == held ? NULL : "memory is kept by a call that was refused it";
@@ -85,7 +85,7 @@ static const char *fault_of(const struct order *order, struct pesp_session *sess
     return is_same ? NULL : "a call that was refused memory has changed the session";
 }
 
-/* Whether a call that was refused memory is made again: not where it did its work all the same. */
+/* Whether a call that was refused memory is repeated: not if it succeeded nevertheless. */
 static bool is_made_again(const struct order *order, struct pesp_session *session, const struct answer *answer, uint8_t *before, size_t length) {
     if (answer->told.status != PESP_DONE || order->kind == 'w') return true;
     if (order->kind == 'o') {
@@ -100,7 +100,7 @@ static bool is_made_again(const struct order *order, struct pesp_session *sessio
     return is_same;
 }
 
-/* Makes a call with one request for memory after the other refused, until none is or it does without. */
+/* Makes a call with one memory request after the other refused, until none is or it succeeds nevertheless. */
 static void refuse_each(struct work *work, const struct order *order, struct pesp_session *session) {
     bool was_open = order->kind != 'w' && is_open(session), is_again = true;
     size_t length = 0;

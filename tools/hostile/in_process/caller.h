@@ -1,4 +1,4 @@
-/* A caller of the library in process that makes the calls that scripts order, each with memory of just its size. */
+/* A caller of the library in process that makes the calls that scripts order, each with memory of exactly the needed size. */
 #ifndef CALLER_H
 #define CALLER_H
 
@@ -9,7 +9,7 @@
 #include <stdint.h>
 #include <stdio.h>
 
-/* What is ordered: `kind` is one of the letters that calls.c lists. */
+/* An order: `kind` is one of the letters that calls.c lists. */
 struct order {
     char kind;
     unsigned slot;                 /* the session */
@@ -20,10 +20,10 @@ struct order {
     uint8_t *texts[4]; /* files, commands, a line: null where the length is 0 */
 };
 
-/* How requests for memory are refused in a call that is made again and again, until none is. */
+/* How memory requests are refused in a call that is repeated until none is. */
 enum refusal { NONE = 0, ALONE = 1, WITH_ALL_LATER_ONES = 2 };
 
-/* What came of a call. */
+/* The result of a call. */
 struct answer {
     struct pesp_told told;
     uint64_t numbers[4]; /* of a cost, a change, a search or a price */
@@ -39,11 +39,11 @@ void let_go(struct answer *answer);
 /* The network, the domains and the working timetable, as bytes. */
 uint8_t *state_of(struct pesp_session *session, size_t *length);
 
-/* memory.c: what heap.c calls in the place of malloc, realloc and free. */
+/* memory.c: the functions that heap.c calls instead of malloc, realloc and free. */
 void refuse_requests(uint64_t from, uint64_t to);
-/* How many requests were refused since then. */
+/* The number of requests refused since the last reset. */
 uint64_t refused_requests(void);
-/* The blocks that this thread took in calls and has not given back. */
+/* The blocks that this thread allocated in calls and has not freed. */
 long held_blocks(void);
 struct totals {
     long held;
@@ -51,7 +51,7 @@ struct totals {
 };
 struct totals all_threads(void);
 
-/* A block of just so many bytes, or null for none; the caller ends where there is no memory. */
+/* A block of exactly this many bytes, or null for none; without memory the caller ends. */
 void *block_of(size_t bytes);
 
 #endif

@@ -1,4 +1,4 @@
-"""The callers of embedded/ in C, Rust and Python over a library whose code the sanitizers watch: they do what the program does."""
+"""The callers of embedded/ in C, Rust and Python over an instrumented library: they behave like the program."""
 
 import contextlib
 import io
@@ -18,11 +18,11 @@ from tests.harness import run as tried
 FLAGS = WAYS["sanitizers"].flags
 # The sanitizer's own library comes before all others.
 FIRST = "libasan.so"
-# rustc links no library but those that it is told.
+# rustc links no library without being told.
 RUNTIMES = ["-lasan", "-lubsan"]
-# What a sanitizer finds has a status of its own.
+# The exit status for a sanitizer's finding.
 WATCHED = ["env", "ASAN_OPTIONS=exitcode=98"]
-# Python keeps memory to its end, and is no program of the sanitizer: its library comes first.
+# Python keeps memory until its end, and is not instrumented: the sanitizer's library is preloaded.
 UNLEAKED = ["env", "ASAN_OPTIONS=exitcode=98:detect_leaks=0"]
 LINE = TOP / "examples/hourly-line"
 NUMBERS: Dict[str, Tuple[List[object], bytes]] = {
@@ -50,12 +50,12 @@ def in_rust(folder: Path, heap: Path, library: Sequence[Path]) -> List[object]:
     return [*WATCHED, f"LD_PRELOAD={runtime(FIRST)}", folder / "in-rust"]
 
 
-# What makes the command that answers as the program does, by what that is written in.
+# The function that builds the command of a caller, by its language.
 LANGUAGES: Dict[str, Callable[[Path, Path, Sequence[Path]], List[object]]] = {"Rust": in_rust, "Python": in_python, "C": in_c}
 
 
 def stories(suite: Suite, made: Dict[str, List[object]]) -> None:
-    """The stories of examples/ that have commands, refused ones among them."""
+    """The stories of examples/ that have commands, including refused ones."""
     for folder in folders():
         commands = content(folder / "commands", None)
         if commands is None:
@@ -79,7 +79,7 @@ def crate(suite: Suite, library: Sequence[Path]) -> None:
     env = {"PESPBENCH_LIB": archive, "RUSTFLAGS": " ".join(f"-Clink-arg={word}" for word in RUNTIMES)}
     env[f"CARGO_TARGET_{target.upper().replace('-', '_')}_RUNNER"] = " ".join([*WATCHED, f"LD_PRELOAD={runtime(FIRST)}"])
     words = ["env", *(f"{name}={value}" for name, value in env.items()), "cargo", "test", "--offline", "--quiet"]
-    # A target that is named keeps the sanitizer from what builds the crate.
+    # With a named target, the sanitizer does not apply to build scripts.
     came = tried([*words, "--target", target, "--target-dir", suite.folder / "target"], cwd=place, seconds=300)
     suite.note("the crate's own tests", {"status": 0}, came)
 
@@ -95,7 +95,7 @@ def numbers(suite: Suite) -> None:
 
 
 def try_language(suite: Suite, language: str, library: Sequence[Path]) -> Tuple[int, List[str]]:
-    """How many cases of a caller passed, and what was wrong."""
+    """The number of passed cases of a caller, and the faults."""
     told, heap = io.StringIO(), suite.folder / "heap.o"
     suite.tally.write_text("")
     try:
@@ -107,7 +107,7 @@ def try_language(suite: Suite, language: str, library: Sequence[Path]) -> Tuple[
         return 0, [f"FAILED callers: {fault}"]
     with contextlib.redirect_stdout(told):
         stories(suite, made)
-        # Group embedded has the longest files that are read.
+        # The group embedded has the longest files.
         refusals(suite, made, has_longest=False)
         if language == "C":
             numbers(suite)

@@ -1,13 +1,13 @@
-/* The calls of pespbench.h by a letter, each with rooms and texts of just their size. */
+/* The calls of pespbench.h by a letter, each with buffers and texts of exactly the needed size. */
 #include "caller.h"
 
 #include <stdlib.h>
 #include <string.h>
 
-/* What a room, a number and an answer hold before a call. */
+/* The contents of a buffer, a number and an answer before a call. */
 enum { BEFORE = 0xA5, NUMBER_BEFORE = 7 };
 
-/* The bytes of what stands in a room. */
+/* The bytes in a buffer. */
 static size_t width_of(char kind) {
     return kind == 'e' ? sizeof(uint32_t) : kind == 't' || kind == 's' ? sizeof(uint16_t) : 1;
 }
@@ -95,7 +95,7 @@ void make_call(const struct order *order, struct pesp_session *session, struct a
 
 void let_go(struct answer *answer) { free(answer->room); }
 
-/* Puts a part of a state after those before it. */
+/* Appends a part of a state to the earlier ones. */
 static uint8_t *joined(uint8_t *state, size_t *length, const struct answer *answer) {
     uint8_t *longer = block_of(*length + answer->shown + 1);
     if (*length != 0) memcpy(longer, state, *length);

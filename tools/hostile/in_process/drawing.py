@@ -1,4 +1,4 @@
-"""Streams of calls on a session, drawn: lines of all commands, numbers and searches between them, and hostile uses."""
+"""Random streams of calls on a session: lines of all commands, numbers and searches between them, and hostile uses."""
 
 import itertools
 import random
@@ -12,11 +12,11 @@ from tests.streams import drawn_lines, searches
 
 SLOTS = 4
 LINES = 12
-# Short periods, over which searches end soon, and long ones, at which none is asked for.
+# Short periods, at which searches end soon, and long ones, at which there are none.
 SHORT, LONG = range(2, 13), [60, 255, 256, 257, 1440]
-# For a whole reply of a few events.
+# Enough for a complete reply of a few events.
 WHOLE = 65_536
-# Bytes of a file over which a search takes some time.
+# The bytes of a file on which a search takes some time.
 LARGE = 200
 # A line or a file may have any bytes.
 HOSTILE = [b"\0", b"cost\0", b"\0cost", b"\xff\xfe", b"domain \xc3\xa41", b"\xe2\x80\xaecost", b"cost\ncost", b"\n", b"cost\n", b"", b" " * 4_096]
@@ -26,7 +26,7 @@ NODES = [0, 0, 0, 1, 1, 2, 3, 5, 10, 50, 200, 2**64 - 1]
 
 
 class Stream(NamedTuple):
-    """Calls on one session, and what it is opened with."""
+    """Calls on one session, and the files from which it is opened."""
 
     period: int
     files: Sequence[bytes]
@@ -44,11 +44,11 @@ class Kind(NamedTuple):
 
 
 class Drawing:
-    """Draws the calls of one stream."""
+    """Generates the calls of one stream."""
 
     def __init__(self, draw: random.Random, period: int, slot: int, files: Sequence[bytes], kind: Kind) -> None:
         self.draw, self.period, self.slot, self.files, self.kind = draw, period, slot, files, kind
-        # A search of some thousand requests takes too long to be made again for each.
+        # A search of some thousand requests takes too long to be repeated for each.
         self.is_refusing = (kind.is_whole or draw.randrange(4) == 0) and len(files[0]) < LARGE
         self.has_searches = period in SHORT
 
@@ -77,7 +77,7 @@ class Drawing:
         return Order(orders.ASK, self.slot, room=self.room(), refusal=self.refusal(), texts=(line,))
 
     def line(self, line: bytes) -> List[Order]:
-        """A line; a try has room for all of its reply, and the network is told after it."""
+        """A line; a `try` has room for its complete reply, and is followed by the network."""
         asked = self.ask(line)
         return [asked._replace(room=WHOLE), self.dump()] if line.split()[:1] == [b"try"] else [asked]
 
@@ -85,23 +85,23 @@ class Drawing:
         return Order(orders.ASK, self.slot, room=WHOLE, texts=(b"dump",))
 
     def timetable(self) -> List[Order]:
-        """The events and the times, whole."""
+        """The events and the times, complete."""
         return [self.order(orders.EVENTS, room=100), self.order(orders.TIMES, room=100)]
 
     def moves(self) -> List[Order]:
         return [*self.timetable(), self.order(orders.MOVE, first=self.event(), second=self.time())]
 
     def search(self) -> List[Order]:
-        """A search, and then the network that it was over."""
+        """A search, followed by its network."""
         if not self.has_searches:
             return []
         search = self.order(orders.SEARCH, first=self.draw.choice(NODES), room=self.draw.choice([0, 1, 3, 100, 100]), refusal=self.refusal())
-        # What was found is told again, in whole.
+        # The result is returned again, complete.
         again = [self.order(orders.SEARCH, first=0, room=100)] if self.draw.randrange(3) == 0 else []
         return [search, *again, self.dump()]
 
     def price(self, kind: str) -> List[Order]:
-        """The price of an event at a time or of an activity's tension, perhaps asked for again, and then the network that it is of."""
+        """The price of an event at a time or of an activity's tension, perhaps repeated, followed by its network."""
         if not (self.kind.has_prices and self.has_searches):
             return []
         number, value = (self.event(), self.time()) if kind == orders.PRICE else (self.activity(), self.tension())
@@ -110,7 +110,7 @@ class Drawing:
         return [*prices, self.dump()]
 
     def more(self) -> List[Order]:
-        """What is asked beside lines."""
+        """The queries other than lines."""
         turns: List[Callable[[], List[Order]]] = [
             lambda: [self.order(orders.COST)],
             lambda: [self.order(orders.EVENTS, room=self.draw.randint(0, 5))],
@@ -136,7 +136,7 @@ class Drawing:
         return Order(orders.OPEN, self.slot, first=period, refusal=self.refusal(), texts=tuple(self.files))
 
     def unopened(self) -> List[Order]:
-        """Uses of a session that is closed, and openings at a period that there is not."""
+        """Uses of a closed session, and openings at an invalid period."""
         kinds = [orders.COST, orders.MOVE, orders.EVENTS, orders.TIMES, orders.DOMAIN, orders.SEARCH, *orders.PRICES * self.kind.has_prices]
         drawn = [self.order(self.draw.choice(kinds), first=1, room=3) for _ in range(self.draw.randrange(3))]
         drawn += [self.order(kind) for kind in (orders.CLOSE, orders.MOVE_SESSION) if self.draw.randrange(3) == 0]
@@ -159,7 +159,7 @@ class Drawing:
 
 
 def each_with_each(draw: random.Random, period: int) -> bytes:
-    """Activities between each two of six events, over which a search stops and goes on."""
+    """Activities between each two of six events, on which a search stops and resumes."""
     rows = []
     for number, (first, second) in enumerate(itertools.combinations(range(1, 7), 2), 1):
         lower = draw.randrange(period)
@@ -168,8 +168,8 @@ def each_with_each(draw: random.Random, period: int) -> bytes:
 
 
 def drawn_stream(draw: random.Random, period: int, slot: int, kind: Kind) -> Stream:
-    """A stream at a period. One in 25 is opened of files at a period of its own, and one in ten of a network that is harder to search;
-    one in four is refused memory. One that has every call is opened without files."""
+    """A stream at a period. One in 25 is opened from files at a period of its own, and one in ten from a network that is harder to
+    search; one in four is refused memory. One that has every call is opened without files."""
     files: Sequence[bytes] = [b"", b"", b""]
     lines = drawn_lines(draw, period, LINES)
     if draw.randrange(25) == 0 and not kind.is_whole:
@@ -182,7 +182,7 @@ def drawn_stream(draw: random.Random, period: int, slot: int, kind: Kind) -> Str
 
 
 def merged(draw: random.Random, streams: Sequence[Stream]) -> List[Order]:
-    """The orders of several streams, each of a slot of its own, with those of a stream in their order."""
+    """The orders of several streams, each in a slot of its own, with those of a stream in their order."""
     left = [list(stream.orders) for stream in streams]
     turns = [place for place, each in enumerate(left) for _ in each]
     draw.shuffle(turns)

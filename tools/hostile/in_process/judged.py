@@ -1,8 +1,8 @@
-"""Libraries that go wrong, each in one way: the tests have to find it."""
+"""Libraries that are wrong, each in one way, which the tests must find."""
 
 from typing import Dict, Tuple
 
-# By the numbers of wrong.c: what goes wrong, the ways to watch that find it, and a word of what is told.
+# By the numbers of wrong.c: what is wrong, the instruments that find it, and a word of the report.
 WRONG: Dict[int, Tuple[str, str, str]] = {
     1: ("a byte is written after the room", "sanitizers memcheck", "heap-buffer-overflow|Invalid write"),
     2: ("a byte is read after the line", "sanitizers memcheck", "heap-buffer-overflow|Invalid read"),
@@ -23,5 +23,5 @@ WRONG: Dict[int, Tuple[str, str, str]] = {
     17: ("a price is of another tension", "sanitizers", "the optimum is"),
     18: ("a price leaves its activity at the tension", "sanitizers", "wanted|the optimum is"),
 }
-# Not of a library without prices.
+# Not for a library without prices.
 OF_PRICES = [14, 15, 16, 17, 18]

@@ -1,4 +1,4 @@
-"""What calls on a session answered, beside the program's replies to lines that ask the same."""
+"""Compares the answers of calls on a session with the program's replies to equivalent lines."""
 
 from types import ModuleType
 from typing import Dict, List, Optional, Tuple
@@ -22,29 +22,29 @@ def command_in(line: bytes) -> Tuple[str, List[int]]:
 
 
 class Judged:
-    """The calls of one stream in turn: what the program is asked for each, and what is wrong with it."""
+    """The calls of one stream in turn: the program's lines for each, and its faults."""
 
     def __init__(self, stream: Stream, module: ModuleType) -> None:
         self.stream, self.module, self.is_open = stream, module, False
         self.checks: List[Check] = []
         self.searched: List[Searched] = []
-        # As the replies so far have them, and as the calls told them last.
+        # By the replies so far, and by the last results of calls.
         self.events: List[int] = []
         self.times: Dict[int, int] = {}
         self.told_events: List[int] = []
         self.told_times: List[int] = []
-        # Whether the times are known that a session began with, which the files have.
+        # Whether the initial times of a session, which are in the files, are known.
         self.has_times = not stream.has_files()
-        # Searches, prices and tries whose network is told next, and the cost and the bound of the search that goes on.
+        # Searches, prices and tries whose network follows, and the cost and the bound of the search in progress.
         self.untold: List[Call] = []
         self.before: Optional[Tuple[Optional[int], int]] = None
         self.prices = Prices(stream.period)
-        # Of the program's own opening of the files.
+        # For the program's own opening of the files.
         self.opening_fault = ""
         self.script = b""
 
     def add(self, call: Call) -> None:
-        """Notes what judges a call."""
+        """Registers the judge of a call."""
         lines, judge = self.check_of(call)
         title = f"{call.order.kind} {call.order.first} {call.order.second} {call.order.texts[:1]!r:.200}"
 
@@ -108,7 +108,7 @@ class Judged:
         return lines, judge
 
     def follow(self, name: str, numbers: List[int], first: bytes) -> None:
-        """What an accepted line makes of events and times."""
+        """The effect of an accepted line on events and times."""
         if name == "time":
             self.times[numbers[0]] = numbers[1]
         elif name in ("untime", "drop event"):
@@ -166,7 +166,7 @@ class Judged:
         def judge(replies: List[bytes]) -> Optional[str]:
             self.events = [int(row.split(b":")[0]) for row in replies[0].splitlines()[1:]]
             if is_first:
-                # Those of the file, which the costs after this show.
+                # Those of the file, which the later costs show.
                 self.times = {event: time for event, time in told.items() if time != NO_TIME}
             times = [self.times.get(event, NO_TIME) for event in self.events]
             return is_wanted(call, (ended(orders.DONE, len(times)), as_bytes(times, 2), UNTOLD), width=2)
@@ -201,7 +201,7 @@ class Judged:
         return [], lambda _: fault
 
     def fault_of_end(self, call: Call, reply: bytes) -> Optional[str]:
-        """A search that ended tells the optimum, or that there is none, and does not go on."""
+        """A search that ended returns the optimum, or that there is none, and cannot be resumed."""
         if reply == b"infeasible\n":
             return is_wanted(call, (ended(orders.DONE), b"", (0, 0, NO_TIMETABLE, 0)))
         cost, times = int(reply.split()[1]), times_in(reply)
@@ -209,7 +209,7 @@ class Judged:
         return is_wanted(call, (ended(orders.DONE, len(times)), shown, (cost, cost, OPTIMUM, 0)), width=2)
 
     def fault_of_chain(self, call: Call) -> Optional[str]:
-        """No later call of a search tells a dearer timetable, or a lower bound that is less."""
+        """No later call of a search returns a dearer timetable, or a smaller lower bound."""
         cost, bound, state, _ = call.last.numbers
         has_times = state in (BEST_SO_FAR, OPTIMUM)
         if call.order.first == 0 or state == NO_TIMETABLE:
@@ -229,7 +229,7 @@ class Judged:
         return check.lines, check.judge
 
     def note_searched(self) -> None:
-        """What searches told that may tell more than one thing, with the network that they were over; a timetable where all of it is shown."""
+        """Results of searches that may differ from the program's, with their networks; a timetable if it is complete."""
         events = [int(line.split()[2]) for line in self.script.splitlines() if line.startswith(b"add event")]
         for call in self.untold:
             if call.order.kind == orders.ASK:
@@ -246,7 +246,7 @@ class Judged:
 
 
 def fault_of_try(call: Call, reply: bytes) -> Optional[str]:
-    """To `try` there is more than one legal reply. What it tells is judged by the network, which is told after it."""
+    """`try` has more than one legal reply. It is judged by the network that follows it."""
     if is_wanted(call, (ended(orders.DONE, len(reply)), reply, UNTOLD)) is None:
         return None
     is_reply = call.last.shown.startswith((b"stopped", b"optimum", b"infeasible")) and call.last.told == ended(orders.DONE, len(call.last.shown))

@@ -1,4 +1,4 @@
-"""Runs each part, several tasks side by side."""
+"""Runs each part, several tasks in parallel."""
 
 import argparse
 import concurrent.futures
@@ -24,14 +24,14 @@ def run_task(making: Making, task: Task) -> Result:
 
 
 def untried() -> Dict[str, str]:
-    """The parts that cannot be tried here, each with what is not there."""
+    """The parts that cannot be tried here, each with what is missing."""
     if compiler() is None:
         return {part: "no C compiler (gcc)" for part in PARTS}
     return {part: why for part, (name, why) in WANTED.items() if not (shutil.which(name) or os.path.isabs(runtime(name)))}
 
 
 def made(making: Making, parts: Sequence[str], missing: Collection[str]) -> List[str]:
-    """Makes what the parts need; the fault."""
+    """Builds what the parts need; returns the fault."""
     try:
         making.make_libraries(parts, missing)
         for part in parts:

@@ -1,5 +1,5 @@
-/* The heap under heap.c, which is compiled with these names in the place of malloc, realloc and free: it counts what the
- * library asks for, and refuses what it is told to. */
+/* The heap under heap.c, which is compiled with these names instead of malloc, realloc and free: it counts the library's
+ * requests, and refuses those that it is told to. */
 #include "caller.h"
 
 #include <stdatomic.h>
@@ -14,7 +14,7 @@ static _Thread_local struct {
     long held;
 } here;
 
-/* Relaxed, so that they bring no order between threads that is not there without them. */
+/* Relaxed, so that they add no order between threads that would not exist without them. */
 static atomic_long held;
 static atomic_ulong requests, refused;
 

@@ -1,4 +1,4 @@
-/* What a newer clang calls for copies where a sanitizer watches threads, by the names that gcc's library watches them under. */
+/* The functions that a newer clang calls for copies under a thread sanitizer, by the names that gcc's library watches. */
 #include <stddef.h>
 #include <string.h>
 

@@ -1,4 +1,4 @@
-"""The orders that caller.c carries out, and what it writes of each call."""
+"""The orders that caller.c executes, and its report of each call."""
 
 import re
 from typing import Iterator, List, NamedTuple, Tuple
@@ -8,18 +8,18 @@ OPEN, CLOSE, ASK, COST, MOVE, EVENTS, TIMES, DOMAIN, SEARCH, PRICE, TENSION, RUN
 PRICES = [PRICE, TENSION]
 MOVE_SESSION, EXCHANGE = "m", "x"
 WITHOUT_ANSWER = [MOVE_SESSION, EXCHANGE]
-# How requests for memory are refused: not at all, alone, and with all later ones.
+# How memory requests are refused: not at all, alone, and with all later ones.
 NONE, ALONE, WITH_ALL_LATER_ONES = 0, 1, 2
 
-# In the numbers of the header.
+# The numbers of the header.
 DONE, NOT_WRITTEN, MEMORY, LONG_LINE, NO_PERIOD, CLOSED, ALREADY_OPEN, NOT_ONE_LINE, REFUSED = 0, 5, 6, 7, 9, 10, 11, 12, 13
 NO_MEMORY_TO_READ = 11
-# What the caller puts into a number and into what is told before a call.
+# The caller's initial value of a number, and of the report, before a call.
 NUMBER_BEFORE, TOLD_BEFORE = 7, 9
 
 
 class Order(NamedTuple):
-    """A call, in the words of caller.c."""
+    """A call, as an order of caller.c."""
 
     kind: str
     slot: int = 0
@@ -36,12 +36,12 @@ class Order(NamedTuple):
         return " ".join(map(str, words)).encode() + b"\n" + b"".join(self.texts)
 
 
-# What a call told: length, place, status, reason, field.
+# The report of a call: length, place, status, reason, field.
 Told = Tuple[int, ...]
 
 
 class Answer(NamedTuple):
-    """What came of a call."""
+    """The result of a call."""
 
     kind: str
     told: Told
@@ -53,7 +53,7 @@ class Answer(NamedTuple):
         return self.told[2]
 
     def is_final(self) -> bool:
-        """Whether the call was not made again."""
+        """Whether the call was not repeated."""
         return self.kind.islower()
 
 
@@ -61,7 +61,7 @@ HEAD = re.compile(rb"(\w) (\d+) (\d+) (\d+) (\d+) (\d+) (\d+) (\d+) (\d+) (\d+) 
 
 
 def answers_of(output: bytes) -> Iterator[Answer]:
-    """The answers that a caller wrote; the last may be cut where it broke off, and is left out."""
+    """The answers that a caller wrote; an incomplete last one is omitted."""
     place = 0
     while head := HEAD.match(output, place):
         numbers = [int(word) for word in head.groups()[1:11]]
@@ -73,7 +73,7 @@ def answers_of(output: bytes) -> Iterator[Answer]:
 
 
 class Call(NamedTuple):
-    """An order with what came of it: of the times that it was refused memory, and of the last one."""
+    """An order with its results: those with memory refused, and the last one."""
 
     order: Order
     refused: List[Answer]
@@ -81,7 +81,7 @@ class Call(NamedTuple):
 
 
 def calls_of(orders: List[Order], output: bytes) -> List[Call]:
-    """The orders that have an answer, with theirs; fewer where the caller broke off."""
+    """The orders that have an answer, with their answers; fewer if the caller stopped early."""
     answers, calls = answers_of(output), []
     for order in orders:
         if order.kind in WITHOUT_ANSWER:

@@ -1,4 +1,4 @@
-"""What is tried of the library in process: drawn streams under each way to watch it, libraries that go wrong, and the callers."""
+"""The tests of the library in process: random streams under each instrument, wrong libraries, and the callers."""
 
 import argparse
 import random
@@ -15,11 +15,11 @@ from hostile.in_process.playing import Counts, Player
 from tests.embedded import answering
 from tests.harness import Suite
 
-# So many streams of a thread are played by one start of the caller.
+# The number of streams of a thread that one start of the caller plays.
 STREAMS_AT_ONCE = 100
-# Of so many streams one is played so: memcheck is some thirty times as slow as a sanitizer, and threads play two at once.
+# One stream is played for this many others: memcheck is some thirty times as slow as a sanitizer, and threads play two at once.
 ONE_OF = {"sanitizers": 1, "threads": 5, "memcheck": 25}
-# Streams in which a library has to be found wrong.
+# The number of streams in which a wrong library must be found.
 TRIALS, STREAMS_OF_A_TRIAL = 20, 8
 WRAPPED = [f"-Wl,--wrap={name}" for name in ("pesp_ask", "pesp_search", "pesp_price", "pesp_price_tension")]
 
@@ -33,7 +33,7 @@ class Task(NamedTuple):
 
 
 class Result(NamedTuple):
-    """How much was tried, how many cases passed, and what was wrong."""
+    """The amount of work, the number of passed cases, and the faults."""
 
     counts: Counts
     passed: int
@@ -41,7 +41,7 @@ class Result(NamedTuple):
 
 
 class Making:
-    """The callers and libraries that were made, in a folder that all tasks read."""
+    """The compiled callers and libraries, in a folder that all tasks read."""
 
     def __init__(self, words: argparse.Namespace, folder: Path) -> None:
         self.words, self.folder = words, folder
@@ -50,7 +50,7 @@ class Making:
         self.libraries: Dict[str, List[Path]] = {}
 
     def make_libraries(self, parts: Sequence[str], missing: Collection[str]) -> None:
-        """Makes the library for each way that the parts need, at once."""
+        """Builds the library for each instrument that the parts need, in parallel."""
         ways = sorted({way for part in parts for way in ways_of(part)} - set(missing))
         with ThreadPoolExecutor() as threads:
             made = threads.map(lambda way: library_for(self.folder, way, self.words.library), ways)
@@ -60,7 +60,7 @@ class Making:
         return all(map(has_prices, self.libraries.values()))
 
     def make_callers(self, part: str) -> None:
-        """Makes what a part needs beside the library."""
+        """Builds what a part needs besides the library."""
         for way in set(ways_of(part)) & set(self.libraries):
             if part in WAYS:
                 self.callers[way] = made_caller(self.folder, way, self.libraries[way])
@@ -69,12 +69,12 @@ class Making:
 
 
 def ways_of(part: str) -> List[str]:
-    """The ways to watch that a part needs."""
+    """The instruments that a part needs."""
     return [part] if part in WAYS else list(WAYS) if part == "judges" else ["sanitizers"]
 
 
 def tasks(part: str, streams: int) -> Iterator[Task]:
-    """What a part has to do, each in a process; the longest come first."""
+    """The tasks of a part, each for a process; the longest come first."""
     if part not in WAYS:
         yield from (Task(part, number, 0) for number in (WRONG if part == "judges" else range(len(callers.LANGUAGES))))
         return
@@ -85,7 +85,7 @@ def tasks(part: str, streams: int) -> Iterator[Task]:
 
 
 def play(making: Making, task: Task) -> Result:
-    """Streams of a task, drawn from the seed, the part and the number."""
+    """Streams of a task, generated from the seed, the part and the number."""
     draw = random.Random(f"{making.words.seed} {task.part} {task.number}")
     with tempfile.TemporaryDirectory() as name:
         player = Player(making.words.program, making.callers[task.part], answering(), Path(name))
@@ -94,7 +94,7 @@ def play(making: Making, task: Task) -> Result:
 
 
 def judges(making: Making, task: Task) -> Result:
-    """A library that goes wrong is found by each way that can find it, and by what it says."""
+    """A wrong library is found by each instrument that can find it, with the expected words."""
     title, ways, word = WRONG[task.number]
     tried = [way for way in ways.split() if way in making.wrong and (making.wrong[way].has_prices or task.number not in OF_PRICES)]
     missed = [way for way in tried if not is_found(making, making.wrong[way], task.number, word)]
@@ -113,7 +113,7 @@ def is_found(making: Making, caller: Caller, number: int, word: str) -> bool:
 
 
 def call(making: Making, task: Task) -> Result:
-    """A caller of embedded/, over the library whose code the sanitizers watch."""
+    """A caller of embedded/, over the instrumented library."""
     with tempfile.TemporaryDirectory() as name:
         suite = Suite(making.words.program, Path(name), Path(name) / "tally")
         passed, faults = callers.try_language(suite, list(callers.LANGUAGES)[task.number], making.libraries["sanitizers"])
@@ -122,7 +122,7 @@ def call(making: Making, task: Task) -> Result:
 
 PARTS: Dict[str, Callable[[Making, Task], Result]] = {"callers": call, "judges": judges, **{way: play for way in WAYS}}
 ADDRESSES, RACES = ("libasan.so", "no AddressSanitizer (libasan, of gcc)"), ("libtsan.so", "no ThreadSanitizer (libtsan, of gcc)")
-# A command or a library of the compiler that a part cannot do without.
+# A command or a library of the compiler without which a part cannot run.
 WANTED: Dict[str, Tuple[str, str]] = {
     "sanitizers": ADDRESSES, "callers": ADDRESSES, "threads": RACES, "memcheck": (MEMCHECK[0], "no memcheck (valgrind)"),
 }

@@ -1,4 +1,4 @@
-"""Plays drawn streams: by the caller over the library, and by the program, whose replies judge what the calls told."""
+"""Plays random streams: by the caller over the library, and by the program, whose replies judge the calls."""
 
 import random
 from pathlib import Path
@@ -15,14 +15,14 @@ from hostile.in_process.wanted import Check
 from hostile.inputs import ends_of_replies
 from tests.harness import NAMES, Came, run
 
-# One long period comes to so many short ones.
+# One long period counts as this many short ones.
 SHORT_TO_LONG = 12
 EXCHANGES = 5
 SECONDS = 1_200
 
 
 class Counts(NamedTuple):
-    """How much was tried: streams, sessions that were opened, calls, requests for memory, and those refused."""
+    """The amount of work: streams, opened sessions, calls, memory requests, and those refused."""
 
     streams: int = 0
     sessions: int = 0
@@ -38,7 +38,7 @@ class Counts(NamedTuple):
 
 
 class Script(NamedTuple):
-    """The orders of a thread, and the streams that they are of, by slots."""
+    """The orders of a thread, and their streams, by slots."""
 
     streams: List[List[Stream]]
     orders: List[Order]
@@ -49,7 +49,7 @@ def period_drawn(draw: random.Random) -> int:
 
 
 def drawn_script(draw: random.Random, period: int, count: int, kind: Kind) -> Script:
-    """So many streams, some at once and then others, each of a slot of its own; a kind that has every call is that of the first."""
+    """This many streams, some at once and then others, each in a slot of its own; only the first has every call."""
     together = [
         [drawn_stream(draw, period, slot, kind if first + slot == 0 else kind._replace(is_whole=False)) for slot in range(min(SLOTS, count - first))]
         for first in range(0, count, SLOTS)
@@ -58,7 +58,7 @@ def drawn_script(draw: random.Random, period: int, count: int, kind: Kind) -> Sc
 
 
 def with_exchanges(draw: random.Random, script: Script) -> Script:
-    """The same with places at which two threads that carry it out exchange their sessions."""
+    """The same with places at which two threads exchange their sessions."""
     exchanged = list(script.orders)
     for _ in range(EXCHANGES):
         exchanged.insert(draw.randrange(len(exchanged) + 1), Order(orders.EXCHANGE))
@@ -66,7 +66,7 @@ def with_exchanges(draw: random.Random, script: Script) -> Script:
 
 
 def carried_out(caller: Caller, folder: Path, scripts: Sequence[Script]) -> Tuple[Came, List[bytes]]:
-    """What the caller says at its end, and what it wrote of each script."""
+    """The caller's last line, and its answers to each script."""
     paths = [(folder / f"script-{number}", folder / f"answers-{number}") for number, _ in enumerate(scripts)]
     for script, (path, answers) in zip(scripts, paths):
         path.write_bytes(b"".join(order.packed() for order in script.orders))
@@ -76,7 +76,7 @@ def carried_out(caller: Caller, folder: Path, scripts: Sequence[Script]) -> Tupl
 
 
 def calls_by_stream(script: Script, calls: Sequence[Call]) -> Iterator[Tuple[Stream, List[Call]]]:
-    """The calls of each stream; those that are not there, where the caller broke off, are left out."""
+    """The calls of each stream; those without an answer, if the caller stopped early, are omitted."""
     rest = list(calls)
     for together in script.streams:
         count = sum(order.kind not in orders.WITHOUT_ANSWER for stream in together for order in stream.orders)
@@ -92,8 +92,9 @@ class Player:
         self.program, self.caller, self.module, self.folder = program, caller, module, folder
 
     def play(self, draw: random.Random, count: int, is_whole: bool = False) -> Tuple[Counts, List[str]]:
-        """Plays so many streams of a period in each thread, with every call if it is whole: how much that was, and the faults."""
-        # At a long period none is asked for a search.
+        """Plays this many streams of a period in each thread, with every call if it is complete: the amount of work, and the
+        faults."""
+        # At a long period there are no searches.
         period = draw.choice(SHORT) if is_whole else period_drawn(draw)
         kind = Kind(self.caller.has_prices, is_whole)
         scripts = [drawn_script(draw, period, count, kind) for _ in range(self.caller.threads)]
@@ -105,13 +106,13 @@ class Player:
         for script, output in zip(scripts, outputs):
             calls = calls_of(script.orders, output)
             opened += sum(call.order.kind == orders.OPEN and call.last.status() == orders.DONE for call in calls)
-            # Where it broke off, it is not known what networks it left.
+            # If the caller stopped early, the networks that it left are unknown.
             faults += [] if came["status"] else self.faults_of(script, calls, period)
         _, calls_made, requests, refused = [int(word) for word in came["standard output"].split()] or [0, 0, 0, 0]
         return Counts(count * len(scripts), opened, calls_made, requests, refused), faults
 
     def faults_of_end(self, came: Came, scripts: Sequence[Script], outputs: Sequence[bytes]) -> List[str]:
-        """What is wrong with how the caller ended, and where that was."""
+        """The fault of the caller's end, if any, and where that was."""
         if came["status"] == 0 and not came["standard error"] and came["standard output"].split()[:1] == [b"0"]:
             return []
         text = came["standard error"].decode(errors="replace")
@@ -133,7 +134,7 @@ class Player:
         return faults + self.faults_of_lines(judged, Stream(period, [], [])) + self.faults_of_searches(judged, period)
 
     def words_of(self, stream: Stream) -> List[object]:
-        """The program's words for the files of a stream, which are written."""
+        """Writes the files of a stream, and returns the program's arguments for them."""
         words: List[object] = [self.program, "--period", stream.period]
         for name, text in zip(NAMES, stream.files):
             (self.folder / name).write_bytes(text)
@@ -141,7 +142,7 @@ class Player:
         return words
 
     def faults_of_run(self, call: Call) -> List[str]:
-        """What a whole run over memory gives other than the program."""
+        """The difference of a whole run in memory from the program."""
         *files, commands = call.order.texts
         came = run(self.words_of(Stream(call.order.first, files, [])), given=commands, seconds=SECONDS)
         replies, fault = came["standard output"], self.module.fault_of(self.module.Told(*call.last.told)) or ""
@@ -149,7 +150,8 @@ class Player:
         return [] if is_same else [f"a whole run of {call.order.texts!r:.2000} told {call.last.told}, the program {came}"]
 
     def faults_of_lines(self, judged: Sequence[Judged], opened: Stream) -> List[str]:
-        """The faults of streams, one after the other in one run of the program; where that has a fault of a file, of a session that has it too."""
+        """The faults of streams, one after the other in one run of the program; if that has a fault of a file, of the session that
+        has it too."""
         checks: List[Check] = []
         for judge in judged:
             checks += [*judge.checks, Check(emptying(judge.script), lambda _: None)]
@@ -174,7 +176,7 @@ class Player:
         return "", [came["standard output"][start:end] for start, end in zip(ends, ends[1:])]
 
     def faults_of_searches(self, judged: Sequence[Judged], period: int) -> List[str]:
-        """What a search told that may tell more than one thing is judged by the program, over the same network."""
+        """The program judges, on the same network, a search that has several possible results."""
         searched = [each for judge in judged for each in judge.searched]
         lines = [line for each in searched for line in lines_of_search(each)]
         fault, replies = self.replies([self.program, "--period", period], lines) if lines else ("", [])

@@ -1,4 +1,5 @@
-"""What prices returned: the refusals, and the optimum of the network in which the event has that time, or the activity that tension."""
+"""The results of prices: the refusals, and the optimum of the network in which the event has that time, or the activity that
+tension."""
 
 from typing import List, Optional, Tuple
 
@@ -8,9 +9,9 @@ from hostile.in_process.orders import Call, Order, Told
 from hostile.in_process.searched import NO_TIMETABLE, OPTIMUM, Searched
 from hostile.in_process.wanted import Check, before_of, ended, is_wanted
 
-# An event at the time, and an activity of no length from there: the window of the priced event stays, as it does for a price.
+# An event at the time, and an activity of no length from there: the window of the priced event does not count in a price.
 PRICED = b"add event %(more)d\nfix %(more)d %(time)d\nadd activity %(more)d %(more)d %(event)d 0 0 0\n"
-# No drawn network has an event or an activity of this number.
+# No random network has an event or an activity of this number.
 MORE = 999_999_998
 
 
@@ -27,12 +28,12 @@ class Prices:
 
     def __init__(self, period: int) -> None:
         self.period = period
-        # The question of the last one, and its lower bound, where the next one goes on with it.
+        # The question of the last one, and its lower bound, if the next one resumes it.
         self.last: Optional[Tuple[str, int, int]] = None
         self.bound = 0
 
     def forget(self) -> None:
-        """After an edit a price begins again."""
+        """After an edit a price restarts."""
         self.last = None
 
     def check_of(self, call: Call) -> Check:
@@ -57,14 +58,14 @@ class Prices:
         return ended(orders.REFUSED, reason=4) if order.second >= self.period else None
 
     def fault_of_numbers(self, call: Call) -> Optional[str]:
-        """A price that ended does not go on, and one that goes on with the last one has no smaller lower bound."""
+        """A finished price is not resumed, and a resumed one has no smaller lower bound."""
         _, bound, state, goes_on = call.last.numbers
         if goes_on > (state not in (OPTIMUM, NO_TIMETABLE)):
             return "a price tells what it never does"
         if call.order.third == 0 or state == NO_TIMETABLE:
             return None
         priced = (call.order.kind, call.order.first, call.order.second)
-        # What was refused memory may have begun again.
+        # A price that was refused memory may have restarted.
         is_less = self.last == priced and not call.refused and bound < self.bound
         fault = f"a lower bound of {self.bound} before, and now {bound}" if is_less else None
         self.last, self.bound = priced if goes_on else None, bound

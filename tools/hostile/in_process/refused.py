@@ -1,4 +1,4 @@
-"""What a call answers that is refused memory: nothing is done, and that is what it tells."""
+"""The answer of a call that is refused memory: nothing is done, and that is reported."""
 
 import re
 from typing import Optional
@@ -9,15 +9,15 @@ from hostile.in_process.orders import NUMBER_BEFORE, Answer, Call
 from hostile.inputs import ends_of_replies
 
 NOTHING = (0, 0, orders.MEMORY, 0, 0)
-# Calls that tell four numbers.
+# Calls that report four numbers.
 SEARCHES = [orders.SEARCH, *orders.PRICES]
-# A line, whose reply to `try` may lack a timetable that was known: what is refused memory for it goes without.
+# A line, whose reply to `try` may lack a known timetable: what is refused memory for it continues without it.
 TRY = re.compile(rb"[ \t\r]*try[ \t]")
 NONE_KNOWN = b"stopped none\n"
 
 
 def fault_of_refused(call: Call) -> Optional[str]:
-    """What is wrong with the calls that were refused memory, if anything."""
+    """The fault of the calls that were refused memory, if any."""
     for number, answer in enumerate(call.refused, 1):
         fault = fault_of_run(call, answer) if call.order.kind == orders.RUN else fault_of_one(call, answer)
         if fault:
@@ -27,7 +27,7 @@ def fault_of_refused(call: Call) -> Optional[str]:
 
 def fault_of_one(call: Call, answer: Answer) -> Optional[str]:
     if answer.told == call.last.told and answer.shown == call.last.shown and call.order.kind != orders.SEARCH:
-        # It did without.
+        # It succeeded without the memory.
         return None
     if call.order.kind == orders.ASK and TRY.match(call.order.texts[0]) and answer.told == (len(NONE_KNOWN), 0, 0, 0, 0):
         return None if NONE_KNOWN.startswith(answer.shown) else "another reply than that no timetable is known"
@@ -40,7 +40,7 @@ def fault_of_one(call: Call, answer: Answer) -> Optional[str]:
 
 
 def tells_of_none(call: Call, answer: Answer) -> bool:
-    """Whether replies are as without a refusal up to one to `try`, which then tells of no timetable."""
+    """Whether replies are as without a refusal up to one to `try`, which then has no timetable."""
     commands = call.order.texts[3]
     first = next((place for place, line in enumerate(commands.split(b"\n")) if TRY.match(line)), None)
     if first is None or call.order.room < call.last.told[0]:
@@ -50,7 +50,7 @@ def tells_of_none(call: Call, answer: Answer) -> bool:
 
 
 def fault_of_run(call: Call, answer: Answer) -> Optional[str]:
-    """A run that is refused memory answers the lines before one, or has a first part of all replies."""
+    """A run that is refused memory answers the lines before one, or returns a prefix of all replies."""
     if answer.told == call.last.told and answer.shown == call.last.shown:
         return None
     length, place, status, reason, field = answer.told
@@ -63,7 +63,7 @@ def fault_of_run(call: Call, answer: Answer) -> Optional[str]:
     if status != orders.MEMORY:
         return "neither want of memory nor what it answers without a refusal"
     if call.order.room < call.last.told[0]:
-        # What the lines before that one have as replies is not shown.
+        # The replies to the lines before that one are not shown.
         return None
     ends = ends_of_replies(call.order.texts[3], call.last.shown)
     return None if place < len(ends) and length == ends[max(place - 1, 0)] else "not just the replies before its line"

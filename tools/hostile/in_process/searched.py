@@ -1,14 +1,14 @@
-"""What searches told that may tell more than one thing, judged by the program over the same networks."""
+"""Results of searches that may differ, judged by the program over the same networks."""
 
 from typing import Dict, List, NamedTuple, Optional
 
-# In the numbers of the header.
+# The numbers of the header.
 NOTHING_YET, BEST_SO_FAR, OPTIMUM, NO_TIMETABLE = range(4)
 
 
 class Searched(NamedTuple):
-    """What a search told: its network as a script, its timetable if any, its cost, its lower bound, a whole reply that is the optimum's,
-    and its state where it is a price, which has no timetable."""
+    """The result of a search: its network as a script, its timetable if any, its cost, its lower bound, a complete reply that is
+    the optimum's, and its state if it is a price, which has no timetable."""
 
     script: bytes
     times: Dict[int, int]
@@ -29,7 +29,7 @@ def times_in(reply: bytes) -> Dict[int, int]:
 
 
 def searched_by_try(script: bytes, reply: bytes) -> Searched:
-    """The same of a reply to `try`."""
+    """The same for a reply to `try`."""
     if not reply.startswith(b"stopped"):
         return Searched(script, {}, 0, 0, reply)
     cost = reply.split()[1]
@@ -37,7 +37,7 @@ def searched_by_try(script: bytes, reply: bytes) -> Searched:
 
 
 def emptying(script: bytes) -> List[bytes]:
-    """The lines that take a network away, of which the script is told."""
+    """The lines that remove the network of a script."""
     rows = [line.split() for line in script.splitlines()]
     activities = [b"drop activity " + row[2] for row in rows if row[:2] == [b"add", b"activity"]]
     return activities + [b"drop event " + row[2] for row in rows if row[:2] == [b"add", b"event"]]
@@ -63,7 +63,7 @@ def fault_of_search(searched: Searched, violations: bytes, cost: bytes, optimum:
 
 
 def is_price(priced: Searched, optimum: bytes) -> bool:
-    """Whether a price may tell this where that is the optimum of its network."""
+    """Whether a price may have this result if that is the optimum of its network."""
     words = optimum.split()
     least = None if words[0] == b"infeasible" else int(words[1])
     is_below = least is None or priced.bound <= least

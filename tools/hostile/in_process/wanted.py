@@ -1,19 +1,19 @@
-"""What an answer of a call is to have."""
+"""The expected answer of a call."""
 
 from typing import Callable, List, NamedTuple, Optional, Sequence, Tuple
 
 from hostile.in_process import orders
 from hostile.in_process.orders import NUMBER_BEFORE, Answer, Call, Order, Told
 
-# What judges a call by the program's replies: a fault, or None.
+# The judge of a call by the program's replies: returns a fault, or None.
 Judge = Callable[[List[bytes]], Optional[str]]
-# What an answer is to have: what is told, the bytes of which a first part is shown, and the numbers.
+# The expected answer: the report, the bytes of which a prefix is shown, and the numbers.
 Wanted = Tuple[Told, bytes, Tuple[int, ...]]
 UNTOLD = (0, 0, 0, 0)
 
 
 class Check(NamedTuple):
-    """Lines that are given to the program, and what judges a call by its replies to them."""
+    """Lines for the program, and the judge of a call by its replies to them."""
 
     lines: List[bytes]
     judge: Judge
@@ -24,7 +24,7 @@ def ended(status: int, length: int = 0, place: int = 0, reason: int = 0) -> Told
 
 
 def shown_is(answer: Answer, width: int, whole: bytes, room: int) -> bool:
-    """Whether a first part of all bytes is shown, as many as there is room for."""
+    """Whether a prefix of all bytes is shown, as many as fit."""
     return answer.shown == whole[: room * width]
 
 
@@ -40,7 +40,7 @@ def before_of(order: Order) -> Tuple[int, ...]:
 
 
 def is_wanted(call: Call, wanted: Wanted, width: int = 1) -> Optional[str]:
-    """What an answer has other than what is wanted."""
+    """The differences of an answer from the expected one."""
     told, whole, numbers = wanted
     if call.last.told != told:
         return f"wanted {told}"

@@ -1,4 +1,4 @@
-/* A library that goes wrong in one way, which the environment's WRONG numbers, over the right one. The tests have to find each. */
+/* A library that is wrong in one way, which the environment's WRONG numbers, over the right one. The tests must find each. */
 #include "caller.h"
 
 #include <stdlib.h>
@@ -13,7 +13,7 @@ void __real_pesp_search(struct pesp_session *session, uint64_t nodes, uint16_t *
 void __wrap_pesp_ask(struct pesp_session *session, const uint8_t *line, size_t line_length, uint8_t *out, size_t out_length, struct pesp_told *told);
 void __wrap_pesp_search(struct pesp_session *session, uint64_t nodes, uint16_t *out, size_t out_length, struct pesp_found *found, struct pesp_told *told);
 
-/* In the order of judged.py. */
+/* The order is that of judged.py. */
 enum wrong {
     NOTHING, WRITES_AFTER_THE_ROOM, READS_AFTER_THE_LINE, READS_WHAT_IS_FREED, KEEPS_MEMORY, READS_WHAT_IS_NOT_SET, SHARES_A_COUNT,
     ANSWERS_ANOTHER_BYTE, TELLS_WHAT_FITS, CHANGES_WITHOUT_MEMORY, TELLS_A_GREATER_BOUND, TELLS_ANOTHER_COST, LOSES_A_TIME,
@@ -28,7 +28,7 @@ static enum wrong wrong(void) {
 
 static volatile unsigned long shared;
 
-/* The compiler is not to see that what it leads to is gone. */
+/* The compiler must not see that its target is freed. */
 static unsigned char *volatile freed;
 
 static void read_what_is_freed(void) {
@@ -56,7 +56,7 @@ static void go_wrong_before(const uint8_t *line, size_t line_length) {
 
 void __wrap_pesp_ask(struct pesp_session *session, const uint8_t *line, size_t line_length, uint8_t *out, size_t out_length, struct pesp_told *told) {
     go_wrong_before(line, line_length);
-    /* So the library's own code reads a byte more. */
+    /* So the library's own code reads one byte too many. */
     size_t read = line_length + (wrong() == READS_WHAT_IT_WAS_NOT_GIVEN && line_length != 0);
     __real_pesp_ask(session, line, read, out, out_length, told);
     bool is_shown = told->status == PESP_DONE && told->length != 0 && out_length != 0;

@@ -13,7 +13,7 @@ pub struct Bench {
     domains: Domains,
 }
 
-/// Nothing, or the reply that says why a command is not done.
+/// Nothing, or the reply that says why a command is refused.
 type Done = Result<(), String>;
 
 fn ensure(holds: bool, why: impl Fn() -> String) -> Done {
@@ -133,7 +133,7 @@ impl Bench {
         (0..self.network.events.len()).for_each(|place| self.put_domain(text, place as u32));
     }
 
-    /// Puts the answer to a question, or makes an edit.
+    /// Writes the answer to a query, or makes an edit.
     fn answer(&mut self, words: &[&[u8]], text: &mut Vec<u8>) -> Done {
         match *words {
             [b"add", b"activity", ..] => self.add_activity(numbers(words, 2, [NUMBER, NUMBER, NUMBER, BOUND, BOUND, WEIGHT])?)?,
@@ -155,7 +155,7 @@ impl Bench {
         Ok(())
     }
 
-    /// Puts the reply to a line into an empty text.
+    /// Writes the reply to a line into an empty text.
     pub fn reply(&mut self, line: &[u8], text: &mut Vec<u8>) {
         let (mut words, mut count, mut rest) = ([&[][..]; 9], 0, line);
         while let Some(start) = rest.iter().position(|byte| !is_blank(byte)).filter(|_| count < words.len()) {

@@ -1,25 +1,25 @@
-//! Domains by counts: for each residue at each end of an activity, how many residues of the other event go with it.
+//! Domains by counts: for each residue at each end of an activity, how many residues of the other event are partners.
 
 use crate::network::{Network, Window};
 
-/// From so many residues on, those of one event that wait move together.
+/// From this many residues on, those of one event that wait move together.
 const BLOCK: u32 = 4;
 
 /// Residues, as bits.
 type Row = u64;
 
 pub struct Domains {
-    // Each end has so many counts, one for each residue.
+    // Each end has this many counts, one for each residue.
     period: usize,
     // By end, then residue: of partners in `counted`.
     counts: Vec<u8>,
-    // By the place of an event. What stands in the rows alone waits to come to the counts, and what they lack to leave them.
+    // By the place of an event. Residues only in the rows wait to be counted, and those only in the counts wait to leave them.
     rows: Vec<Row>,
     counted: Vec<Row>,
-    // Places and residues: what an edit took out, and what it brought back, the oldest first.
+    // Places and residues: those removed by an edit, and those restored, the oldest first.
     trail: Vec<(u32, u16)>,
     back: Vec<(u32, u16)>,
-    // Of what moves together: how many are below each residue of three periods.
+    // For residues that move together: how many are below each residue of three periods.
     sums: Vec<u16>,
 }
 
@@ -33,12 +33,12 @@ fn residues(row: Row) -> impl Iterator<Item = u16> {
     })
 }
 
-/// The residues of a row of which something holds.
+/// The residues of a row for which something holds.
 fn some_of(row: Row, holds: impl Fn(usize) -> bool) -> Row {
     residues(row).filter(|residue| holds(*residue as usize)).fold(0, |some, residue| some | 1 << residue)
 }
 
-/// Moves the counts that a window holds.
+/// Moves the counts that a window contains.
 fn shift(counts: &mut [u8], window: Window, by: u8) {
     for range in window.ranges(counts.len() as u16) {
         counts[range].iter_mut().for_each(|count| *count = count.wrapping_add(by));
@@ -75,20 +75,20 @@ impl Domains {
         self.back.extend(residues(came).map(|residue| (place as u32, residue)));
     }
 
-    /// Takes the residues of an event out that its window does not admit.
+    /// Removes the residues of an event that its window does not admit.
     fn limit(&mut self, network: &Network, place: usize) {
         self.take_out(place, self.rows[place] & !network.admitted(place));
     }
 
-    /// Takes some residues of an event out, where they have no partner at an end.
+    /// Removes some residues of an event that have no partner at an end.
     fn sift(&mut self, place: usize, end: u32, some: Row) {
         let counts = &self.counts[end as usize * self.period..][..self.period];
         let lost = some_of(self.rows[place] & some, |residue| counts[residue] == 0);
         self.take_out(place, lost);
     }
 
-    /// Follows an edit: puts back what it reaches from some places, limits an event to its window, counts an activity anew,
-    /// and takes out what is left without a partner.
+    /// Follows an edit: restores what it reaches from some places, limits an event to its window, recounts an activity, and
+    /// removes residues without a partner.
     pub fn follow(&mut self, network: &Network, starts: &[u32], limited: Option<u32>, recounted: Option<u32>) {
         self.trail.clear();
         self.back.clear();
@@ -120,8 +120,8 @@ impl Domains {
         ends.into_iter().for_each(|end| self.sift(network.look(end ^ 1).0, end, Row::MAX));
     }
 
-    /// Lets what came be counted, or what was taken out no more, alone or with others of its event, and all that comes or goes
-    /// by that. Nothing comes along a spared activity.
+    /// Counts restored residues, or uncounts removed ones, alone or with others of their event, and everything that results.
+    /// Nothing comes along a spared activity.
     fn spread(&mut self, network: &Network, comes: bool, spared: Option<u32>) {
         let mut at = 0;
         while let Some(&(place, residue)) = if comes { &self.back } else { &self.trail }.get(at) {
@@ -138,7 +138,7 @@ impl Domains {
         }
     }
 
-    /// Whether of what waits at an event each moves by itself; else the sums are of all that wait there.
+    /// Whether each waiting residue at an event moves by itself; otherwise the sums are of all that wait there.
     fn moves_alone(&mut self, waits: Row) -> bool {
         if waits.count_ones() < BLOCK {
             return true;
@@ -154,8 +154,8 @@ impl Domains {
         false
     }
 
-    /// Moves the counts along an activity for a residue at an end, or for all that the sums are of, and brings what goes with
-    /// that, or takes out what has no partner then.
+    /// Moves the counts along an activity for a residue at an end, or for all residues of the sums, and restores their
+    /// partners, or removes those that have no partner then.
     fn move_along(&mut self, network: &Network, end: u32, alone: Option<u16>, comes: bool) {
         let ((far, window), back) = (network.look(end), network.look(end ^ 1).1);
         let counts = &mut self.counts[(end ^ 1) as usize * self.period..][..self.period];

@@ -1,4 +1,4 @@
-//! The network of three files. That a row is faulty is told, and no more; quotes, and weights with a point, are faults.
+//! The network of three files. A faulty row is reported without details; quotes, and weights with a point, are faults.
 
 use crate::network::{Activity, Network, Window, find};
 
@@ -12,7 +12,7 @@ const TIME: Limits = (-1_000_000_000, 1_000_000_000);
 /// A number as far from 0 as this is outside all limits.
 const CAP: i64 = 10_000_000_000_000;
 
-/// The number that a text writes, where it is within the limits.
+/// The number of a text, if it is within the limits.
 pub fn number_between(text: &[u8], (low, high): Limits) -> Result<i64, &'static str> {
     let (sign, digits) = match text {
         [b'-', digits @ ..] => (-1, digits),
@@ -33,7 +33,7 @@ pub fn number_between(text: &[u8], (low, high): Limits) -> Result<i64, &'static 
     }
 }
 
-/// Cuts a record off a text: its trimmed fields, without an empty one at their end.
+/// Splits a record off a text: its trimmed fields, without an empty one at their end.
 fn cut_record<'a>(text: &mut &'a [u8], separator: u8, fields: &mut Vec<&'a [u8]>) {
     fields.clear();
     let mut is_last = false;
@@ -51,13 +51,13 @@ fn cut_record<'a>(text: &mut &'a [u8], separator: u8, fields: &mut Vec<&'a [u8]>
     fields.pop_if(|field| field.is_empty());
 }
 
-/// Takes each row of a file, to the first faulty one.
+/// Handles each row of a file, up to the first faulty one.
 fn take_rows(name: &str, bytes: &[u8], mut take: impl FnMut(&[&[u8]]) -> Option<()>) -> Result<(), String> {
     let separator = if bytes.contains(&b';') { b';' } else { b',' };
     let (mut rest, mut fields, mut is_begun) = (bytes, Vec::new(), false);
     while !rest.is_empty() {
         cut_record(&mut rest, separator, &mut fields);
-        // A blank record is skipped as a comment is.
+        // A blank record is skipped like a comment.
         let first = fields.first().map_or(b'#', |field| field.first().copied().unwrap_or_default());
         if first != b'#' && (is_begun || !first.is_ascii_alphabetic()) {
             take(&fields).ok_or_else(|| format!("{name} file: a row is faulty"))?;
@@ -71,7 +71,7 @@ fn number(text: &[u8], limits: Limits) -> Option<i64> {
     number_between(text, limits).ok()
 }
 
-/// The activity of a row, whose events are their numbers as yet.
+/// The activity of a row, whose ends are still numbers of events.
 fn activity(fields: &[&[u8]], period: u16) -> Option<Activity> {
     let [id, from, to, lower, upper, weight] = *fields else { return None };
     let id = number(id, NUMBER)? as u32;

@@ -1,5 +1,5 @@
-//! A plain program beside the proved one, for tools/measure: the same files, options, algorithms and replies, and no proof.
-//! It has the commands that are measured beside, no cost that is kept, and periods of less than 64.
+//! A plain program for comparison with the proved one, for tools/measure: the same files, options, algorithms and replies,
+//! and no proof. It has the measured commands, keeps no cost, and supports periods below 64.
 
 mod bench;
 mod counts;

@@ -1,9 +1,9 @@
-//! Events, by rising numbers, and activities, by slot.
+//! Events, by ascending numbers, and activities, by slot.
 
 use std::collections::BTreeMap;
 use std::ops::Range;
 
-/// The residues from one on, around the period: those of an event's window, or those that go with one along an activity.
+/// The residues from one on, around the period: those of an event's window, or the partners along an activity.
 #[derive(Clone, Copy, Debug, PartialEq)]
 pub struct Window {
     pub first: u16,
@@ -15,13 +15,13 @@ impl Window {
         Window { first: 0, length: period }
     }
 
-    /// They as bits.
+    /// The same as bits.
     pub fn row(self, period: u16) -> u64 {
         let ones = u64::MAX >> (64 - self.length);
         (ones << self.first | ones >> (period - self.first)) & (u64::MAX >> (64 - period))
     }
 
-    /// As many residues, so much above these.
+    /// As many residues, higher by this.
     pub fn above(self, period: u16, residue: u16) -> Self {
         let sum = self.first + residue;
         Window { first: if sum < period { sum } else { sum - period }, ..self }
@@ -38,7 +38,7 @@ pub struct Event {
     pub number: u32,
     pub window: Option<Window>,
     pub time: Option<u16>,
-    /// Those of activities that are here.
+    /// That of a present activity.
     pub ends: Vec<u32>,
 }
 
@@ -50,7 +50,7 @@ pub struct Activity {
     pub events: [u32; 2],
     pub bounds: [i32; 2],
     pub weight: u32,
-    /// The first of what goes with residue 0 at each end, and how many these are.
+    /// The first partner of residue 0 at each end, and how many there are.
     pub firsts: [u16; 2],
     pub width: u16,
 }
@@ -63,7 +63,7 @@ impl Activity {
     }
 }
 
-/// Where a number stands among rising ones, or would stand. They mostly have no gaps, and mostly come in order.
+/// The place of a number among ascending ones, or where it would be. They mostly have no gaps, and mostly arrive in order.
 pub fn find<T>(items: &[T], number: u32, number_of: impl Fn(&T) -> u32) -> Result<usize, usize> {
     let (Some(first), Some(last)) = (items.first(), items.last()) else { return Err(0) };
     let guess = number.wrapping_sub(number_of(first)) as usize;
@@ -76,17 +76,17 @@ pub fn find<T>(items: &[T], number: u32, number_of: impl Fn(&T) -> u32) -> Resul
 
 pub struct Network {
     pub period: u16,
-    /// By rising numbers.
+    /// By ascending numbers.
     pub events: Vec<Event>,
     /// Of the number of each activity.
     pub slots: BTreeMap<u32, u32>,
     pub activities: Vec<Activity>,
-    // Slots at which an activity stood.
+    // Slots of dropped activities.
     free: Vec<u32>,
 }
 
 impl Network {
-    /// That of activities whose events are their numbers, unless a number is there twice.
+    /// The network of activities whose ends are still numbers of events, unless a number is repeated.
     pub fn of(period: u16, mut activities: Vec<Activity>) -> Option<Self> {
         let mut numbers: Vec<u32> = activities.iter().flat_map(|activity| activity.events).collect();
         numbers.sort_unstable();
@@ -123,7 +123,7 @@ impl Network {
         self.free.push(slot);
     }
 
-    /// Lets an activity that is at no event lead between these.
+    /// Connects an activity without ends to these events.
     pub fn link(&mut self, slot: u32, events: [u32; 2]) {
         self.activities[slot as usize].events = events;
         (0..).zip(events).for_each(|(side, event)| self.events[event as usize].ends.push(2 * slot + side));
@@ -135,7 +135,7 @@ impl Network {
         }
     }
 
-    /// The event at the other side of an end, and what goes with residue 0 of its own there.
+    /// The event at the other side of an end, and the partners of residue 0 there.
     pub fn look(&self, end: u32) -> (usize, Window) {
         let (activity, side) = (&self.activities[end as usize / 2], end as usize % 2);
         (activity.events[1 - side] as usize, Window { first: activity.firsts[side], length: activity.width })

@@ -1,8 +1,8 @@
-//! What the times make of the network, and numbers in texts.
+//! Replies on the times of the network, and numbers in texts.
 
 use crate::network::{Activity, Event, Network};
 
-/// Writes a number at the end of a text and a word before it, and tells how much of the text is left.
+/// Writes a number at the end of a text and a word before it, and returns the free length of the text.
 fn write_back<const N: usize>(text: &mut [u8], word: &[u8; N], number: u64) -> usize {
     let (mut at, mut rest) = (text.len(), number);
     while at == text.len() || rest > 0 {
@@ -20,7 +20,7 @@ pub fn put_number(text: &mut Vec<u8>, number: u64) {
     text.extend_from_slice(&digits[at..]);
 }
 
-/// Puts a word and a number, and ends the line.
+/// Writes a word and a number, and ends the line.
 pub fn put_line(text: &mut Vec<u8>, word: &[u8], number: u64) {
     text.extend_from_slice(word);
     put_number(text, number);
@@ -35,7 +35,7 @@ fn slack(network: &Network, activity: &Activity) -> u16 {
     if beyond < period { beyond } else { beyond - period }
 }
 
-/// Puts the tensions of all activities, and gives the cost and the activities that are not met.
+/// Writes the tensions of all activities, and returns the cost and the activities that are not met.
 pub fn put_tensions(network: &Network, text: &mut Vec<u8>) -> Result<(u64, Vec<u32>), String> {
     if let Some(event) = network.events.iter().find(|event| event.time.is_none()) {
         return Err(format!("refused 11 event {} has no time", event.number));

@@ -1,16 +1,16 @@
-//! What the crates take of the toolchain's library, over Rust's own: calls that ask for memory get an allocator and may fail.
+//! The part of the toolchain's library that the crates use, over Rust's own: calls that allocate get an allocator and may fail.
 
 use std::ops::{Deref, DerefMut};
 
-/// Gives memory, which never runs out here.
+/// Allocates memory, which never runs out here.
 #[derive(Clone, Copy)]
 pub struct Global;
 
-/// What is told where there is no memory: never.
+/// The error when memory runs out: never.
 #[derive(Clone, Copy, Debug, PartialEq, Eq)]
 pub struct AllocError;
 
-/// What may be let go: here each type.
+/// Values that may be dropped: here each type.
 pub trait Drop: Sized {}
 
 impl<T> Drop for T {}
@@ -20,7 +20,7 @@ pub struct Vec<T>(std::vec::Vec<T>);
 
 type Granted<T> = Result<T, AllocError>;
 
-/// So many of one value.
+/// A number of copies of one value.
 pub fn filled<T: Clone>(value: T, length: usize) -> Granted<Vec<T>> {
     Ok(Vec(vec![value; length]))
 }
@@ -237,7 +237,7 @@ impl<T> DerefMut for BTreeSet<T> {
     }
 }
 
-/// Values at slots, of which those that are let go are taken again, the last one first.
+/// Values at slots; freed slots are reused, the last one first.
 pub struct Slab<T> {
     entries: std::vec::Vec<Option<T>>,
     vacant: std::vec::Vec<usize>,
@@ -302,7 +302,7 @@ impl<T> std::ops::IndexMut<usize> for Slab<T> {
     }
 }
 
-/// Seconds and parts of 10^9 of them, as the system's clocks tell.
+/// Seconds and parts of 10^9 of them, as the system's clocks return them.
 #[repr(C)]
 struct Clock {
     seconds: i64,
@@ -313,7 +313,7 @@ unsafe extern "C" {
     fn clock_gettime(clock: i32, told: *mut Clock) -> i32;
 }
 
-/// What this process has had of processors.
+/// The processor time of this process.
 pub fn seconds() -> f64 {
     let mut told = Clock { seconds: 0, parts: 0 };
     unsafe { clock_gettime(2, &mut told) };

@@ -36,7 +36,7 @@ fn network_of(period: u16, rows: &[Row]) -> Option<Network> {
     Some(network)
 }
 
-/// What the first map is found to be, from a map of least cost, and whether it is found.
+/// The first map that is found from a map of least cost, and whether it is found.
 fn first_after(cycles: &mut ByCycles, network: &Network, candidate: Candidate, budget: &mut Budget) -> Option<(String, bool)> {
     let (cost, begun) = (candidate.cost, seconds());
     let (is_first, is_done) = match cycles.first(Global, network, candidate, budget).ok()? {
@@ -46,12 +46,12 @@ fn first_after(cycles: &mut ByCycles, network: &Network, candidate: Candidate, b
     Some((format!("optimum {cost}; {is_first} after {:.3} s more", seconds() - begun), is_done))
 }
 
-/// A number by which two maps are told apart.
+/// A number that distinguishes maps.
 fn sum_of(map: &[u16]) -> u64 {
     map.iter().fold(0, |sum: u64, residue| sum.wrapping_mul(31).wrapping_add(u64::from(*residue))) % 1_000_000
 }
 
-/// What the search has come to, and whether that is its end.
+/// The result of the search, and whether that is its end.
 fn searched(cycles: &mut ByCycles, network: &Network, budget: &mut Budget) -> Option<(String, bool)> {
     let limits = Limits { floor: 0, cap: u64::MAX };
     let begun = seconds();
@@ -68,7 +68,7 @@ fn searched(cycles: &mut ByCycles, network: &Network, budget: &mut Budget) -> Op
     Some((format!("{taken:.3} s: {told}"), is_done))
 }
 
-/// One search after another of so many units, each from where the one before it stopped, to the end.
+/// Successive searches of this many units, each resuming the one before it, to the end.
 fn in_steps(network: &Network, units: u64) -> Option<String> {
     let (mut cycles, begun) = (ByCycles::new(Global), seconds());
     for step in 1.. {

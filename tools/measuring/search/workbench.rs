@@ -86,7 +86,7 @@ fn tell_try(bench: &mut Workbench, nodes: u64) -> Option<()> {
     Some(())
 }
 
-/// The network that the search is asked of.
+/// The network of the search.
 fn network_of(bench: &Workbench) -> Option<Network> {
     let instance = bench.instance();
     let events: std::vec::Vec<EventId> = instance.events().map(|event| event.id).collect();
