@@ -72,7 +72,7 @@ def line_of(part: str, given: Input, suite: Suite, seconds: float) -> str:
 def main(words: Optional[Sequence[str]]) -> int:
     parser = argparse.ArgumentParser(prog="tools/test_hostile", description="Tests the built program in hostile use.")
     parser.add_argument("--all", action="store_true", help="try each request and call of large inputs too")
-    parser.add_argument("--only", action="append", choices=PARTS, help="run this part alone")
+    parser.add_argument("--only", action="append", choices=PARTS, help="run only this part")
     parser.add_argument("--jobs", type=int, default=len(os.sched_getaffinity(0)), help="how many run side by side")
     parser.add_argument("program", nargs="?", type=pathlib.Path, default=PROGRAM, help="the program [default: the built one]")
     chosen = parser.parse_args(words)

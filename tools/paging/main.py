@@ -85,7 +85,7 @@ def work(words: argparse.Namespace) -> bool:
 def main(typed: Sequence[str]) -> bool:
     parser = argparse.ArgumentParser(prog="tools/page", description="Makes page/pespbench.html.")
     parser.add_argument("--check", action="store_true", help="compare a rebuilt page with the existing one")
-    parser.add_argument("--module", type=pathlib.Path, metavar="FILE", help="make the module alone, into FILE")
+    parser.add_argument("--module", type=pathlib.Path, metavar="FILE", help="make only the module, into FILE")
     parser.add_argument("--with", type=pathlib.Path, metavar="FILE", dest="given", help="take this module, or that of this page, and make none")
     words = parser.parse_args(typed)
     try:

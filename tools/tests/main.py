@@ -85,7 +85,7 @@ def run_all(chosen: Mapping[str, Group], program: pathlib.Path, patience: int) -
 def main(words: Optional[Sequence[str]]) -> int:
     parser = argparse.ArgumentParser(prog="tools/test_program", description="Runs the tests of the built programs.")
     parser.add_argument("--list", action="store_true", help="print the names of the groups, and the seconds of each")
-    parser.add_argument("--only", action="append", metavar="NAME", choices=groups(), help="run this group alone")
+    parser.add_argument("--only", action="append", metavar="NAME", choices=groups(), help="run only this group")
     parser.add_argument("--patience", type=int, default=1, metavar="N", help="give each group N times its seconds, over a slower program, and have the package's tests draw N times fewer")
     parser.add_argument("program", nargs="?", type=pathlib.Path, default=PROGRAM, help="the program [default: the built one]")
     chosen = parser.parse_args(words)

@@ -78,7 +78,7 @@ def version(suite: Suite, top: Path) -> None:
 
 
 def one_version(suite: Suite) -> None:
-    """VERSION is the newest released version of the changelog, and `+unreleased` if there is one above it; all others are the same."""
+    """VERSION is the newest released version of the changelog, with `+unreleased` below a newer one; all others equal it."""
     headings = re.findall(r"^## ([\d.]+), (.+)", (TOP / "CHANGELOG.md").read_text(), re.M)
     released = next(number for number, day in headings if re.fullmatch(r"\d{4}-\d\d-\d\d", day))
     suite.note("VERSION", {"version": released if headings[0][0] == released else f"{released}+unreleased"}, {"version": VERSION})

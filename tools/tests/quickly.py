@@ -134,7 +134,7 @@ def run_all(chosen: Sequence[Part], jobs: int) -> Tuple[int, int]:
 def main(words: Sequence[str]) -> int:
     parser = argparse.ArgumentParser(prog="tools/test", description="Runs the tests without proving anything.")
     parser.add_argument("--list", action="store_true", help="print the names of the parts")
-    parser.add_argument("--only", action="append", metavar="NAME", help="run this part alone")
+    parser.add_argument("--only", action="append", metavar="NAME", help="run only this part")
     parser.add_argument("--jobs", type=int, default=min(4, os.cpu_count() or 1), help="how many parts run at once")
     chosen = parser.parse_args(words)
     with tempfile.TemporaryDirectory() as folder:

@@ -72,7 +72,7 @@ def main(typed: Optional[Sequence[str]]) -> bool:
     parser = argparse.ArgumentParser(prog="tools/test_library", description="Tests the library in process in hostile use.")
     parser.add_argument("--seed", type=int, default=random.SystemRandom().randrange(1_000_000_000), help="the same seed gives the same streams")
     parser.add_argument("--streams", type=int, default=STREAMS, help="how many drawn streams the sanitizers watch")
-    parser.add_argument("--only", action="append", choices=PARTS, help="run this part alone")
+    parser.add_argument("--only", action="append", choices=PARTS, help="run only this part")
     parser.add_argument("--jobs", type=int, default=len(os.sched_getaffinity(0)), help="how many tasks run side by side")
     parser.add_argument("--library", type=Path, action="append", default=[], metavar="FILE", help="link this in the place of the built library")
     parser.add_argument("program", nargs="?", type=Path, default=PROGRAM, help="the program [default: the built one]")
