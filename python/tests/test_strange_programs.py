@@ -1,4 +1,4 @@
-"""A program that answers nothing, floods, or says what cannot be: it is given up in time, and named."""
+"""A program that answers nothing, floods, or makes impossible claims: it is abandoned in time, and named."""
 
 from __future__ import annotations
 
@@ -22,13 +22,13 @@ from pespbench.faults import GivenUp
 from tests.common import LONG, SOON, TOP, Case
 
 NETWORK = "# period 60 lines 4\\nadd event 1\\nadd event 2\\nadd activity 1 1 2 3 9 2\\nadd activity 2 2 1 3 9 2\\n"
-# What it does at `dump`, and at what is asked after that.
+# Its reply to `dump`, and to later commands.
 SILENT, ALIVE = "time.sleep(600)", f'write(b"{NETWORK}")'
 FLOODS = 'while True:\n        os.write(2, b"pespbench: no end " * 4_000)'
 ENDLESS = 'while True:\n        write(b"1 2 " * 16_000)'
 PROMISES = 'write(b"# period 60 lines 9999999\\n")\n    while True:\n        write(b"add event 1\\n" * 5_000)'
 COMMANDS = [["search", "--seconds", "1"], ["helps", "--seconds", "1"], ["why", "--seconds", "1"], ["report", "--search", "1", "--output", "/dev/null"]]
-# What no network of those events and activities has.
+# Replies that no network of those events and activities has.
 IMPOSSIBLE = {
     "cost": ["cost -1", "cost 12000000000000000", "cost " + "9" * 5_000, "cost 1_0", "cost \\xd9\\xa3"],
     "tensions": ["tensions 1\\n1 3 0", "tensions 2\\n1 3 0\\n7 3 0", "tensions 2\\n1 3 0\\n2 9 99", "tensions 2\\n1 3 0\\n2 5 3", "tensions 100001"],
@@ -42,13 +42,13 @@ DUMPS = ["hello", "add event", "add event x", "time 1 3", "add activity 1 1 2 3 
 
 
 class Given(Case):
-    """Over stand-ins in the place of the program."""
+    """With stand-ins instead of the program."""
 
     def program(self, at_first: str, later: str) -> str:
         return str(self.stand_in(f'if line == "dump":\n    {at_first}\nelse:\n    {later}'))
 
     def told(self, words: List[str], program: str) -> Tuple[int, str, float]:
-        """The status of a command line, what it says is wrong, and the seconds that it took."""
+        """The status of a command line, its message, and the seconds that it took."""
         activities = self.folder / "activities"
         activities.write_text("1; 1; 2; 3; 9; 2\n2; 2; 1; 3; 9; 2\n")
         began = time.monotonic()
@@ -66,7 +66,7 @@ class Given(Case):
                 self.assertLess(took, SOON)
 
     def test_no_answer_to_a_question(self) -> None:
-        """What is asked after the network is known is waited for no longer."""
+        """A query after the network is known does not wait longer."""
         for later in (SILENT, FLOODS):
             program = self.program(ALIVE, later)
             for words in COMMANDS:
@@ -97,7 +97,7 @@ class Given(Case):
         self.assertEqual(cured(ended, {"times": self.folder / "none"}), ended)
 
     def test_nothing_is_left_of_it(self) -> None:
-        """What it has started ends with it."""
+        """The processes that it has started end with it."""
         marked = self.folder / "child"
         body = f"import subprocess\n    child = subprocess.Popen(['sleep', '600'])\n    pathlib.Path({str(marked)!r}).write_text(str(child.pid))\n    {SILENT}"
         self.told(COMMANDS[0], self.program(body, SILENT))
@@ -147,7 +147,7 @@ elif line.startswith(("try", "optimum")):
 else:
     write(b"ok\\n")
 """
-# Found before all else, it sends Ctrl-C as soon as a module is looked for.
+# Imported before all else, it sends Ctrl-C as soon as a module is searched for.
 INTERRUPTS = """
 import os, signal, sys
 
@@ -161,7 +161,7 @@ sys.meta_path.insert(0, Finder())
 
 
 def end(process: "subprocess.Popen[bytes]") -> None:
-    """Ends a process that has not ended yet."""
+    """Ends a process that still runs."""
     process.kill()
     process.wait()
     for stream in (process.stdin, process.stdout, process.stderr):
@@ -196,7 +196,7 @@ class Commands(Case):
             self.assertEqual(shell.returncode, 0, line)
 
     def test_a_script_has_its_answers(self) -> None:
-        """Whose input has ended before the search begins waits for what it comes to."""
+        """A command whose input ends before its search starts waits for the result."""
         slow = ASKED.replace("time.sleep(600)", 'time.sleep(1.5)\n    write(b"infeasible\\n")')
         shell = self.begun("shell", str(self.folder / "activities"), "--program", str(self.stand_in(slow)))
         self.assertEqual(shell.communicate(b"optimum\noptimum\n", LONG), (b"infeasible\ninfeasible\n", b""))
