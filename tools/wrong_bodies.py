@@ -35,8 +35,7 @@ def edits(top: pathlib.Path, shelf: str, crate: str = "*") -> List[pathlib.Path]
 def applied(edit: pathlib.Path) -> Dict[pathlib.Path, str]:
     """The texts of the files that an edit changes, by their paths, with its changes.
 
-    Raises Unread if it names no file, if a text that it changes does not occur exactly once, or if it changes
-    nothing.
+    Raises Unread if it names no file, if a text that it changes does not occur exactly once, or if it changes nothing.
     """
     texts: Dict[pathlib.Path, str] = {}
     path, old = None, None

@@ -1,5 +1,4 @@
-"""A stranger's folder with other things instead of files, places beyond any map, and costs beyond the exact numbers of JavaScript.
-"""
+"""A stranger's folder with other things instead of files, places beyond any map, and costs beyond the exact numbers of JavaScript."""
 
 from __future__ import annotations
 

@@ -117,8 +117,7 @@ class Small(Case):
             self.assertFalse(any(each % network.period == 0 for each in range(conflict.shape.least, conflict.shape.most + 1)))
 
     def check_mend(self, network: Network, conflict: Conflict, mend: Mend, lower: bool) -> None:
-        """A repair works, one with a minute less does not, the statement on the whole network is right, and minimum minutes stay.
-        """
+        """A repair works, one with a minute less does not, the statement on the whole network is right, and minimum minutes stay."""
         self.assertFalse(mend.is_less and not lower)
         self.assertIsInstance(self.decided(with_members(network, {**conflict.members, mend.member: mend.after})), Optimum)
         for is_later in (True, False) if lower or mend.member.of is Of.EVENT else (True,):

@@ -28,8 +28,7 @@ FORMS = {
     "best_within in the tree": rb"Memory\n",
     "known_within in the tree": rb"Memory\n",
 }
-# Calls that work without the refused memory. Their results are as without a refusal, unless a request of that other way is refused
-# too.
+# Calls that work without the refused memory: results are as without a refusal, unless a request of that way is refused.
 TWO_WAYS = ["read_activities"]
 # Cases of calls that need no memory.
 QUIET = " without memory"

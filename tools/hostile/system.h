@@ -1,5 +1,4 @@
-/* The system's declarations that the library needs: so it builds with any C compiler for Linux on x86-64, and without
-   its headers. */
+/* The system's declarations that the library needs: so it builds with any C compiler for Linux on x86-64, and without its headers. */
 
 typedef unsigned long number;
 

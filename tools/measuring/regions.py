@@ -1,5 +1,4 @@
-"""The cost of the optimum of random regions, of their pieces, and of other networks; and that of other solvers if they are
-installed."""
+"""The cost of the optimum of random regions, their pieces, and other networks; and that of other solvers, if installed."""
 
 from pathlib import Path
 from typing import Iterator, List, NamedTuple, Optional, Sequence, Tuple
@@ -41,8 +40,7 @@ class Asked(NamedTuple):
         return None if ran.printed.startswith("fault") else ran
 
     def optima(self, least: Optional[Ran]) -> List[Ran]:
-        """Each program's seconds for the first timetable of least cost; the last one is skipped if the least cost takes too long.
-        """
+        """Each program's seconds for the first timetable of least cost; the last one is skipped if the least cost takes too long."""
         ran = [self.ask(program, "optimum", self.seconds) for program in self.programs[:-1]]
         takes_too_long = least is not None and least.seconds is None
         return [*ran, Ran("", None, 0) if takes_too_long else self.ask(self.programs[-1], "optimum", self.seconds)]

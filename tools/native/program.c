@@ -102,8 +102,7 @@ static struct pesp_session opened(const struct settings *settings) {
     return session;
 }
 
-/* Answers a line on standard output. Replies to changes and searches fit the first room; a query whose reply does not is
- * repeated. */
+/* Answers a line on standard output. Replies to changes and searches fit the first room; a query whose reply does not is repeated. */
 static void answer(struct pesp_session *session, const uint8_t *line, size_t length, unsigned place) {
     static struct bytes out = {NULL, 0, 0};
     struct pesp_told told = {PIECE, 0, PESP_DONE, 0, 0};

@@ -139,8 +139,7 @@ def rest_follows(suite: Suite, page: Hands) -> None:
 
 @within(120)
 def rest_follows_later(suite: Suite, page: Hands) -> None:
-    """After a quick drag, or a key on a bar, on a strip or on a span, the rest follows as part of that step as soon as it is known.
-    """
+    """After a quick drag, or a key on a bar, on a strip or on a span, the rest follows as part of that step as soon as it is known."""
     ticked(page)
     before = times(page)
     x, y, minute = way_of(page, 21)
@@ -169,8 +168,7 @@ def rest_follows_later(suite: Suite, page: Hands) -> None:
 
 
 def drag_train(page: Hands, event: int, words: str) -> Dict[int, int]:
-    """The times after the train of an event is dragged 3 minutes later: meanwhile the page shows these words, then the rest
-    follows."""
+    """The times after an event's train is dragged 3 minutes later: meanwhile the page shows these words, then the rest follows."""
     x, y, minute = way_of(page, event)
     page.drag([(x, y), (x + 2 * minute, y), (x + 3 * minute, y)], is_released=False)
     page.until(f"Page.find('above').textContent.startsWith('{words}')")
@@ -194,8 +192,7 @@ def nearest_follows(suite: Suite, page: Hands) -> None:
 
 @within(120)
 def rest_with_nothing_held(suite: Suite, page: Hands) -> None:
-    """If nothing else is held, the whole timetable is not shifted with the hand: the rest follows to the nearest one, and the page
-    says so."""
+    """If nothing else is held, the rest follows to the nearest timetable, not by a shift of all, and the page says so."""
     page.again()
     page.press("always")
     page.until(KNOWN)

@@ -1,5 +1,4 @@
-"""The price of each minute of an event and each length of an activity: computed in the background, shown, and applied by a click.
-"""
+"""The price of each minute of an event and each length of an activity: computed in the background, shown, and applied by a click."""
 
 from typing import Any, Dict, List
 

@@ -112,8 +112,7 @@ def labelled(page: Hands, labels: Sequence[Sequence[str]], steps: Sequence[Tuple
 
 
 def trains(suite: Suite, page: Hands) -> None:
-    """A train is a chain of runs and dwells, which may be circular; lines are in the order of their names, with numbers in numeric
-    order."""
+    """A train is a chain of runs and dwells, possibly circular; lines are in the order of their names, numbers in numeric order."""
     stations = "XYYZZX"
     labelled(page, [("C", "", stations[place], ("departure", "arrival")[place % 2]) for place in range(6)], [(place, place % 6 + 1, "") for place in range(1, 7)])
     came = page.ask("Page.view.lines.map(line => [line.stations, line.trains.map(train => train.events)])")

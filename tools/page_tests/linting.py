@@ -70,8 +70,7 @@ def what_scripts_share(suite: Suite, page: Hands) -> None:
 
 
 def folders(suite: Suite, page: Hands) -> None:
-    """A module imports only from its own folder and from those before it, and each folder has a short page that names its modules.
-    """
+    """A module imports only from its own folder and from those before it, and each folder has a short page that names its modules."""
     found, place = scripts(SCRIPTS), {path.stem: ORDER.index(path.parent.name) for path in SCRIPTS.rglob("*.js")}
     against = [f"{name} imports {each}" for name, script in found.items() for each in script.imports if place[each] > place[name]]
     suite.note("imports against the order of folders", {"they": []}, {"they": against})

@@ -30,8 +30,7 @@ def moved(page: Hands, minutes: float = 3, train: int = 21) -> None:
 
 
 def mended(suite: Suite, page: Hands) -> None:
-    """A train is moved; the nearest timetable is proposed above the present one, described in trains and minutes, and accepted by a
-    click."""
+    """A train is moved; the nearest timetable is proposed above the present one, in trains and minutes, and accepted by a click."""
     moved(page)
     before = page.ask(TIMES)
     suite.note("violated", {"count": 1, "mend": True}, {"count": page.ask(VIOLATED), "mend": page.is_shown("mend")})
@@ -88,8 +87,7 @@ Rows = List[Tuple[int, int, int, int, int, int]]
 
 
 def least_moves(rows: Rows, times: Dict[int, int], held: int, period: int) -> Tuple[int, int]:
-    """The fewest minutes of moves to a timetable that meets everything, and its least cost, by enumeration; (-1, -1) if there is
-    none."""
+    """The fewest minutes to a timetable that meets everything, and its least cost, by enumeration; (-1, -1) if there is none."""
     others, best = [event for event in times if event != held], (-1, -1)
     for minutes in itertools.product(range(period), repeat=len(others)):
         at = {held: times[held], **dict(zip(others, minutes))}

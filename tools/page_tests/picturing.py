@@ -84,8 +84,7 @@ def of_the_screen(suite: Suite, page: Hands) -> None:
 
 
 def by_wheel(suite: Suite, page: Hands) -> None:
-    """The wheel zooms a diagram about the pointer, the strips with Ctrl or above them, and Shift moves a zoomed one; all shows all.
-    """
+    """The wheel zooms a diagram about the pointer, the strips with Ctrl or above them, and Shift moves a zoomed one; all shows all."""
     page.again()
     page.ask("Page.choose(1)")
     place = over(page, "diagram", 0.5)
@@ -115,7 +114,7 @@ def by_wheel(suite: Suite, page: Hands) -> None:
 
 
 def by_keys_and_drags(suite: Suite, page: Hands) -> None:
-    """Keys zoom about the chosen event, on strips with Alt; a drag beside all trains moves, and a chosen or moved event becomes
+    """Keys zoom about the chosen event, on strips with Alt; a drag beside all trains moves; a chosen or moved event becomes
     visible."""
     page.again()
     page.ask("Page.choose(9); Page.find('diagram').focus()")

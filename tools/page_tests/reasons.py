@@ -90,8 +90,7 @@ def mend_row(mend: Mend, names: Names) -> List[str]:
 
 @within(240)
 def told_twice(suite: Suite, page: Hands) -> None:
-    """On random networks both return the same members in the same order, the same sum along a circle or a path, and the same
-    repairs."""
+    """On random networks both return the same members in the same order, the same sum along a circle or a path, and repairs."""
     if not shutil.which("node"):
         print("  nothing was tried of what the package tells: node is not installed")
         return

@@ -106,8 +106,7 @@ def stopped(suite: Suite, page: Hands) -> None:
 
 
 def beside_edits(suite: Suite, page: Hands) -> None:
-    """The result remains while times are moved, disappears with an edit of the network, and returns after Undo; a search continues
-    beside times."""
+    """The result remains while times are moved, disappears with an edit of the network, and returns after Undo."""
     page.show(TWO_TRAINS)
     page.press("optimum")
     page.until(DONE)

@@ -112,8 +112,7 @@ def beside_gains(suite: Suite, page: Hands) -> None:
 
 @within(240)
 def at_once(suite: Suite, page: Hands) -> None:
-    """A long search is stopped within half a second, and the Worker pauses after its step; a task without steps ends with the
-    Worker."""
+    """A long search is stopped within half a second, and the Worker pauses after its step; a task without steps ends it."""
     page.again()
     page.ask(BESIDE.replace("FIRST", TELLS))
     page.show(long_search())

@@ -1,5 +1,4 @@
-"""A running search: its clock, the best cost, a bound and its distance from the best; stopped, resumed, adopted, and beside edits.
-"""
+"""A running search: its clock, the best cost, a bound and its distance from the best; stopped, resumed, adopted, and beside edits."""
 
 import re
 from typing import List, Optional

@@ -1,8 +1,7 @@
 """The scripts of the page, which are ES modules: their imports and exports, in order and as one script.
 
-A page from disk cannot load modules, so each becomes a function that is called once and returns its exports. Imported
-modules come first, so there are no circular imports; and an export never gets another value, so that it may be taken by
-name.
+A page from disk cannot load modules, so each becomes a function that is called once and returns its exports. Imported modules come
+first, so there are no circular imports; and an export never gets another value, so that it may be taken by name.
 """
 
 import pathlib

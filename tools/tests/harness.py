@@ -52,8 +52,7 @@ def within(seconds: int) -> Callable[[Kind], Kind]:
 
 
 class Suite:
-    """The program, a folder for the files of a group, and a file with one letter for each case, beside one with the last one's
-    name."""
+    """The program, a folder for the files of a group, a file with one letter for each case, and one with the last one's name."""
 
     def __init__(self, program: pathlib.Path, folder: pathlib.Path, tally: pathlib.Path) -> None:
         self.program = program

@@ -154,8 +154,7 @@ class Network:
     def best(self) -> Optional[Tuple[int, Dict[int, int]]]:
         """The first timetable of least cost, with its cost, or None.
 
-        Of two timetables of equal cost the first is that with the smaller time at the first event, ascending, at
-        which they differ.
+        Of two timetables of equal cost the first is that with the smaller time at the first event, ascending, at which they differ.
         """
         return optimum.best(self)
 

@@ -1,13 +1,12 @@
 """The first timetable of least cost, for tests/network.py.
 
-Events that activities join, directly or indirectly, are a part, and each part is timed by itself. Of its timetables of
-least cost the first one is at bounds: each event is at 0, or at an end of its window, or as close to an event at a
-bound as an activity admits, or as far from it. For fix the number of periods that each activity spans there. The
-constraints are then bounds on times and on differences of times, and the cost is linear, so the timetables of least
-cost are all that meet these bounds, some of them exactly. One of them has each time as small as it can be. It is the
-first, and a chain of bounds leads from 0 or the end of a window to each event. So all timetables at bounds are tried,
-and no others. If no event of a part has a window, all times of the part can be shifted together, and its first event is
-at 0.
+Events that activities join, directly or indirectly, are a part, and each part is timed by itself. Of its timetables of least cost
+the first one is at bounds: each event is at 0, or at an end of its window, or as close to an event at a bound as an activity
+admits, or as far from it. For fix the number of periods that each activity spans there. The constraints are then bounds on times
+and on differences of times, and the cost is linear, so the timetables of least cost are all that meet these bounds, some of them
+exactly. One of them has each time as small as it can be. It is the first, and a chain of bounds leads from 0 or the end of a window
+to each event. So all timetables at bounds are tried, and no others. If no event of a part has a window, all times of the part can
+be shifted together, and its first event is at 0.
 """
 
 from typing import TYPE_CHECKING, Dict, Iterable, Iterator, List, Optional, Set, Tuple

@@ -72,8 +72,7 @@ def judged(suite: Suite, title: str, found: Searched, apart: Library) -> None:
 
 
 def is_further(before: Searched, after: Searched) -> bool:
-    """Whether a search of the same instance returns no dearer timetable and no lower bound than the one before it, and ends once.
-    """
+    """Whether a search of the same instance returns no dearer timetable and no lower bound than the one before it, and ends once."""
     (state, cost, bound, _), (state_after, cost_after, bound_after, _) = before, after
     if state >= OPTIMUM:
         return before == after

@@ -65,8 +65,7 @@ const hasData = (fields, isQuoted = false) => {
   return fields.length > 0 && (isQuoted || !fields[0].startsWith('#'));
 };
 
-// The records with data, one after another, each with its number. If first fields are names, a quoted one never begins a
-// comment.
+// The records with data, one after another, each with its number. If first fields are names, a quoted one never begins a comment.
 export const recordsOf = function* (text, isNamed = false) {
   const whole = text.replace(/^\uFEFF/, ''), separator = whole.includes(';') ? ';' : ',';
   let number = 0;

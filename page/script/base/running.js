@@ -44,8 +44,7 @@ const withoutFault = ({ fault, isWanting, ...reply }) => {
 };
 
 // A session of the files of a base. `ask` returns the reply to a line, the same value if it is unchanged; `domains` those of a
-// network; `search` the result of a search with this many more nodes, its times by the given events, with a bound. Raises
-// RunFault.
+// network; `search` the result of a search with this many more nodes, its times by the given events, with a bound. Raises RunFault.
 const sessionOf = base => {
   const { fault, ask: askText, domains, search, close } = openFiles(base), known = new Map(), read = domainReader();
   if (fault) throw new RunFault(fault);

@@ -15,8 +15,7 @@ const turnOf = (component, times, before, period) => {
   return [...votes].reduce((best, each) => each[1] > best[1] || (each[1] === best[1] && far(each[0]) < far(best[0])) ? each : best, [0, 0])[0];
 };
 
-// The components of a network in which nothing is held and whose times are not as shown, each with the minutes by which it is
-// shifted to agree.
+// The components in which nothing is held and whose times are not as shown, each with the minutes that shift it to agree.
 export const turnsOf = ({ events, activities, windows, period }, times, before) => [...componentsOf(events, activities.values())].flatMap(component => {
   const timed = component.filter(event => times.has(event)).sort((one, other) => one - other);
   const turn = component.some(event => windows.has(event)) ? 0 : turnOf(timed, times, before, period);

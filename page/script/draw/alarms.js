@@ -30,8 +30,7 @@ const draw = (alarm, conflicts, taken) => {
   setAttribute(label, 'x', text === whole ? place.x : alarm.place.x);
 };
 
-// Draws the changes of alarms, of the lines of tracks by the events that leave on them, and of stations; `drawn` are those in
-// red.
+// Draws the changes of alarms, of the lines of tracks by the events that leave on them, and of stations; `drawn` are those in red.
 export const drawAlarms = (view, { trackLines, stations, drawn }) => {
   const found = new Map([...drawn].map(alarm => [alarm, []])), taken = [];
   drawn.clear();

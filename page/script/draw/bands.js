@@ -12,8 +12,7 @@ const isHeadway = ({ number, first, last }) => {
   return kind === 'headway' || (!kind && one.station && one.station === other.station && one.kind === other.kind);
 };
 
-// The greatest number of minutes that headways keep free after each event: `lower` after their first, and the rest of the period
-// after their last.
+// The most minutes that headways keep free after each event: `lower` after their first, the rest of the period after their last.
 export const keptFree = ({ period, activities }) => {
   const free = new Map(), keep = (event, minutes) => minutes > 0 && free.set(event, Math.max(minutes, free.get(event) || 0));
   for (const each of activities.values()) {

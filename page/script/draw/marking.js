@@ -63,8 +63,7 @@ const labelOf = (frame, boxes, [minute, y], text, more) => {
   return drawing('text', { class: 'broken', x, y: base, 'text-anchor': 'middle', ...more }, text);
 };
 
-// The minutes over which a violated activity is drawn: one that excludes little, such as a headway, over the shorter way between
-// its ends.
+// The minutes over which a violated activity is drawn: one that excludes little, as a headway, over the shorter way.
 const drawnOver = ({ activity: { lower, upper }, had }, period) => 2 * (upper - lower) > period && 2 * had > period ? had - period : had;
 
 // The place of a violated activity with a drawn end, at one height if the other end or the run is not drawn; null if no end is.

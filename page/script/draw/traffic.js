@@ -1,4 +1,4 @@
-// The diagram of the corridor: all trains of all lines on its stations, each in its line's color, followed by its headway as a
+// The diagram of the corridor: all trains of all lines on its stations, each in its line's color, and after it its headway as a
 // band.
 
 import { bandsOf, keptFree } from './bands.js';

@@ -1,6 +1,5 @@
-// Converts files of other forms into the one that the program and the page read: UTF-8, with semicolons or commas between
-// fields, and points in numbers. Each conversion is reported. The file itself does not change. Texts are processed in
-// parts.
+// Converts files of other forms into the one that the program and the page read: UTF-8, with semicolons or commas between fields,
+// and points in numbers. Each conversion is reported. The file itself does not change. Texts are processed in parts.
 
 import { encodingOf, textsIn } from './decoding.js';
 import { quoted } from '../base/labels.js';

@@ -12,8 +12,7 @@ import { soleWorker } from '../base/workers.js';
 
 const follower = soleWorker(), NONE = { kind: '', edits: [], mode: '' };
 
-// The hand's present action, null if there is none, with the state shown before it and the rest shown with it; and the last
-// result.
+// The hand's present action, null if there is none, with the state shown before it and the rest shown with it; and the last result.
 let hand = null, last = NONE, hear = () => {};
 
 export const hearRest = listener => { hear = listener; };

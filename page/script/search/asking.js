@@ -28,8 +28,7 @@ let hear = () => {};
 
 export const hearAsked = listener => { hear = listener; };
 
-// Starts a task about the state shown. `tell` receives each answer, `fail` a fault, and `end` the seconds when nothing more
-// comes.
+// Starts a task about the state shown. `tell` receives each answer, `fail` a fault, and `end` the seconds when nothing more comes.
 export const askFor = (question, { tell, fail = fault => say(fault, true), end = () => {} }) => {
   stopAsking();
   worker = worker || startWorker(answered);

@@ -6,8 +6,7 @@ import { isSure } from '../base/replies.js';
 import { turned } from '../base/turning.js';
 import { isMet } from '../base/viewing.js';
 
-// By how much a cost may be above the best, in thousandths of that, rounded up, and the greatest value for which percentages are
-// useful.
+// By how much a cost may be above the best, in thousandths, rounded up, and the greatest for which percentages are useful.
 const THOUSAND = 1000n, MOST = 10n * THOUSAND;
 
 const number = value => value.toLocaleString('en');
@@ -17,8 +16,7 @@ const settled = found => found.times && found.bound >= found.cost ? { ...found, 
 
 const higher = (one, other) => one === undefined || other > one ? other : one;
 
-// The better of an earlier result and that of a search now, with the better bound; the progress of that search is kept with
-// either.
+// The better of an earlier result and that of a search now, with the better bound; the progress of that search is kept with either.
 export const betterFound = (before, now) => {
   if (isSure(now)) return now;
   const { seconds } = now, nodes = Math.max(before.nodes, now.nodes);

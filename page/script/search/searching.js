@@ -15,8 +15,7 @@ import { turned } from '../base/turning.js';
 // The greatest number of seconds that can be requested.
 export const EVERY_ATTEMPT = 1e12;
 
-// The results of searches of one network, by its mark; whether they were offered; and the nodes and seconds before the running
-// search.
+// The results of searches of one network, by its mark; whether they were offered; nodes and seconds before the running one.
 let found = null, wasOffered = false, before = { nodes: 0, seconds: 0 };
 
 // They are shown as long as their network is shown, with any times.

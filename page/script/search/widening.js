@@ -35,8 +35,7 @@ export const asItIs = ({ period, activities }, { number, after, paid }, { times,
   return had < lower || had > upper ? { kind: 'none' } : { kind: 'stopped', cost: exactly(String(BigInt(cost) - BigInt(paid))), times };
 };
 
-// Reports the result of each question, and the best timetable of the unchanged network, at first and when another question finds
-// a better one.
+// Reports the result of each question, and the best timetable of the unchanged network, at first and when it gets better.
 export const tellGains = (script, { questions, best, events }, tell) => {
   const network = readNetwork(script);
   let before = best || { kind: 'none' }, session = sessionFrom(script, before.times);

@@ -1,5 +1,4 @@
-// The differences of two networks with their timetables, in the words of the Python package's `compare`: network, times, cost by
-// kind.
+// The differences of two networks with their timetables, in the words of the package's `compare`: network, times, cost by kind.
 
 import { within } from './display.js';
 import { noLabels } from '../base/labels.js';

@@ -53,8 +53,7 @@ class Question:
 
 
 def questions(bench: Bench, kinds: Optional[Collection[str]], minutes: int) -> List[Question]:
-    """One for each activity of some kinds that excludes something; those with the greatest cost in the working timetable come
-    first.
+    """One for each activity of some kinds that excludes something, those with the greatest cost in the working timetable first.
 
     Raises WrongWords for an unknown kind.
     """

@@ -75,8 +75,7 @@ def least_ways(arcs: Sequence[Arc], near: Near, start: int) -> Dict[int, Cycle]:
 
 
 def cycles_over(arcs: Sequence[Arc], ways: Mapping[int, Cycle]) -> List[Cycle]:
-    """For each arc between nodes with paths, the cycle over it and both paths, without their common part; none for an arc of the
-    paths."""
+    """For each arc between nodes with paths, the cycle over it and both, without their common part; none for an arc of a path."""
     found = []
     for place, arc in enumerate(arcs):
         if arc.first in ways:

@@ -46,10 +46,9 @@ class Mend:
 class Conflict:
     """Members that cannot be met together, even without all other constraints.
 
-    `without` has for each member the result of a search with `nodes` nodes of the set without it: a timetable, or
-    nothing. If each has a timetable, the set is truly minimal; otherwise that search only shows no smaller set to be
-    infeasible. `mends` are in the order of preference: those that repair the whole network before the others, and among
-    them by minutes.
+    `without` has for each member the result of a search with `nodes` nodes of the set without it: a timetable, or nothing. If each
+    has a timetable, the set is truly minimal; otherwise that search only shows no smaller set to be infeasible. `mends` are in the
+    order of preference: those that repair the whole network before the others, and among them by minutes.
     """
 
     members: dict[Member, Bounds]

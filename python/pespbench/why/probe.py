@@ -1,8 +1,7 @@
 """Queries a bench about sets of members: whatever is not in a set is released, and one event of each free part is held at 0.
 
-The activities of the set divide the events into parts. A part without a window can be shifted as a whole, since its
-connections to others are released, so holding one of its events at 0 excludes no timetable that cannot be shifted into
-an admitted one.
+The activities of the set divide the events into parts. A part without a window can be shifted as a whole, since its connections to
+others are released, so holding one of its events at 0 excludes no timetable that cannot be shifted into an admitted one.
 """
 
 from __future__ import annotations
