@@ -26,12 +26,14 @@ LIBRARY = os.path.abspath(os.environ["PESPBENCH_LIB"]) if os.environ.get("PESPBE
 OVER_PROGRAM: Dict[str, Any] = {"program": PROGRAM}
 OVER_LIBRARY: Dict[str, Any] = {"engine": "library", "library": LIBRARY}
 needs_library = unittest.skipUnless(LIBRARY, "there is no library in process; PESPBENCH_LIB names one")
-# The greatest seconds to wait for something that usually happens at once: a machine may be slow, or stand still.
-LONG = 100
-# Seconds that are enough on a slow machine too, but not for a program that sleeps, or searches, for minutes.
-SOON = 30
-# With a program that is slower by a factor, which tools/test_program passes, random cases are fewer by the same.
+# The factor of each limit of time, on a slow or busy machine.
 PATIENCE = int(os.environ.get("PESPBENCH_PATIENCE") or 1)
+# The greatest seconds to wait for something that usually happens at once: a machine may be slow, or stand still.
+LONG = 100 * PATIENCE
+# Seconds that are enough on a slow machine too, but not for a program that sleeps, or searches, for minutes.
+SOON = 30 * PATIENCE
+# With a program that is slower by a factor, which tools/test_program passes, random cases are fewer by the same.
+SLOWER = int(os.environ.get("PESPBENCH_SLOWER") or 1)
 
 
 class Whole:

@@ -13,12 +13,11 @@ from pathlib import Path
 
 from pespbench.report import Content, gather, page_of, read_places
 from pespbench.report.drawing import drawn
-from tests.common import Case
+from tests.common import LONG, Case
 from tests.pages import NO_NODE, Page, region_bench
 
 BROWSER = shutil.which("chromium") or shutil.which("chromium-browser") or shutil.which("google-chrome")
 NO_BROWSER = "no browser was tried"
-SECONDS = 90
 POLICY = re.compile('<meta http-equiv="Content-Security-Policy"[^>]*>')
 # The question to a browser about a page that it has laid out; the answer becomes the page's title.
 ASKED = """<script>
@@ -52,7 +51,7 @@ class Browser(Case):
         """Runs the browser on a page, and returns its output."""
         quiet = ["--headless=new", "--no-sandbox", "--disable-gpu", "--hide-scrollbars", f"--user-data-dir={self.folder / 'profile'}"]
         command = [str(BROWSER), *quiet, *words, page.as_uri()]
-        done = subprocess.run(command, capture_output=True, text=True, timeout=SECONDS, check=True)
+        done = subprocess.run(command, capture_output=True, text=True, timeout=LONG, check=True)
         return done.stdout
 
     def told(self, text: str, width: int) -> str:

@@ -11,7 +11,7 @@ from typing import Mapping
 
 from pespbench import Activity, Bench, FileFault, Labels, Names, Window, files
 from pespbench.labels import EventLabel
-from tests.common import EXAMPLES, PATIENCE, PROGRAM, Case, over_both
+from tests.common import EXAMPLES, PROGRAM, SLOWER, Case, over_both
 
 ACTIVITIES = b"activity; from; to; lower; upper; weight\n1; 1; 2; 3; 5; 2.0\n\n# late\n2; 2; 1; 4; 6; 1\n3;1;2;-3;+5;0\n"
 TIMES = b'event,time\r\n1,0\r\n"2",3\r\n  \r\n7,-12\r\n'
@@ -56,7 +56,7 @@ class Reading(Case):
         draw = random.Random(1838)
         for kind, whole in [("activities", ACTIVITIES), ("times", TIMES)]:
             self.same_fault(kind, whole)
-            for _ in range(120 // PATIENCE):
+            for _ in range(120 // SLOWER):
                 text = whole
                 for _ in range(draw.randint(1, 2)):
                     place = draw.randrange(len(text) + 1)

@@ -18,7 +18,7 @@ from pespbench import Activity, Bench, Found, Infeasible, Labels, Names, Optimum
 from pespbench.__main__ import main
 from pespbench.helps import Gain, Helps, helps, text_of
 from pespbench.helps.questions import Question
-from tests.common import EXAMPLES, LONG, PATIENCE, PROGRAM, TOP, Case, over_both
+from tests.common import EXAMPLES, LONG, PROGRAM, SLOWER, TOP, Case, over_both
 
 # Two trains that have to meet at both ends, at period 30: one more minute of one turn, or of the other, lets them meet better.
 TURNS = "1; 1; 2; 10; 10; 1\n2; 2; 3; 3; 5; 4\n3; 3; 4; 10; 10; 1\n4; 4; 1; 4; 6; 2\n5; 2; 1; 3; 30; 9\n"
@@ -172,7 +172,7 @@ class Asked(Case):
         self.assertLessEqual(cost(answer.before) or 0, bench.cost())
 
     def test_drawn(self) -> None:
-        for seed in range(8 // PATIENCE):
+        for seed in range(8 // SLOWER):
             with self.drawn(seed, 5, 8, period=12, room=3) as bench, ThreadPoolExecutor(2) as executor:
                 for minutes in (1, -1):
                     answer = helps(bench, minutes=minutes, executor=executor)

@@ -22,11 +22,11 @@ from pespbench.models.solution import FORMS, NOTHING
 from pespbench.places import measure, quoted, read_places
 from pespbench.replies import replies_of
 from pespbench.terminal import shown
-from tests.common import LONG, PATIENCE, TOP, Case
+from tests.common import LONG, PATIENCE, SLOWER, TOP, Case
 
-MEGABYTE = 1_000_000 // PATIENCE
+MEGABYTE = 1_000_000 // SLOWER
 # Processor seconds of a megabyte on a slow machine, and the greatest ratio for four megabytes.
-SECONDS, TIMES = 3.0, 10.0
+SECONDS, TIMES = 3.0 * PATIENCE, 10.0
 # Seconds after which a reader is stopped, so that one that reads its text repeatedly is found soon.
 GIVEN_UP = 2 * LONG
 

@@ -14,7 +14,7 @@ from unittest import mock
 from pespbench import Activity, Bench, FileFault, Infeasible, Network, Optimum, Window
 from pespbench.models import FORMULATIONS, read_solution, timetable_of
 from pespbench.models.basis import MOST_WAYS
-from tests.common import PATIENCE, PROGRAM, Case, run_words
+from tests.common import PROGRAM, SLOWER, Case, run_words
 
 NETWORKS = 20
 LIMIT = "pespbench.models.basis.MOST_WAYS"
@@ -51,7 +51,7 @@ class Solved(Case):
         solvers = list(filter(shutil.which, SOLVERS))
         if not solvers:
             self.skipTest("neither cbc nor glpsol is here")
-        for seed in range(NETWORKS // PATIENCE):
+        for seed in range(NETWORKS // SLOWER):
             network = drawn(random.Random(seed))
             # For some, like for large ones, no narrow cycles are computed.
             with Bench.from_script(network.text(), program=PROGRAM) as bench, mock.patch(LIMIT, MOST_WAYS if seed % 4 else 0):

@@ -13,7 +13,7 @@ from pespbench import BadReply, Bench, Mended, Near, Network, mended
 from pespbench.answers import Violations
 from pespbench.faults import WrongWords
 from pespbench.near import Wish, WithMoves
-from tests.common import PATIENCE, SOON, Case, Whole, drawn_script, over_both
+from tests.common import SLOWER, SOON, Case, Whole, drawn_script, over_both
 from tests.test_prices import state_of
 from tests.test_progress import interrupt_when
 from tests.timetables import Timetable, apart, small_script, timetables
@@ -36,7 +36,7 @@ class Equal(Case):
 
     def test_nearest(self) -> None:
         """The fewest minutes, and of those the least cost, with all options."""
-        for seed in range(max(3, 60 // PATIENCE)):
+        for seed in range(max(3, 60 // SLOWER)):
             bench, draw = opened(self, seed)
             events, period = bench.network.events, bench.period
             times = {event: draw.randrange(period) for event in draw.sample(events, draw.randrange(1, len(events) + 1))}
@@ -72,7 +72,7 @@ class Equal(Case):
 
     def test_mended(self) -> None:
         """The smallest greatest move, then the fewest minutes, then the cost."""
-        for seed in range(300, 300 + max(2, 10 // PATIENCE)):
+        for seed in range(300, 300 + max(2, 10 // SLOWER)):
             bench, draw = opened(self, seed)
             period = bench.period
             bench.set_times({event: draw.randrange(period) for event in bench.network.events})

@@ -13,7 +13,7 @@ from unittest import mock
 from pespbench import Activity, Bench, Engine, Fault, Infeasible, Network, Optimum, Price, Refused, Stopped, Violations, all_prices
 from pespbench.faults import WrongWords
 from pespbench.prices import Prices, steps_to
-from tests.common import PATIENCE, SOON, Case, Whole, drawn_script, over_both
+from tests.common import SLOWER, SOON, Case, Whole, drawn_script, over_both
 from tests.stand_in_library import StandIn, usual
 from tests.test_progress import interrupt_when
 from tests.timetables import small_script, timetables
@@ -50,7 +50,7 @@ class Equal(Case):
 
     def test_events(self) -> None:
         """As if fixed there, if the window admits it."""
-        for seed in range(max(2, 12 // PATIENCE)):
+        for seed in range(max(2, 12 // SLOWER)):
             bench, draw = self.small(seed)
             event, before = draw.choice(bench.network.events), state_of(bench)
             window = bench.network.windows[event]
@@ -73,7 +73,7 @@ class Equal(Case):
 
     def test_activities(self) -> None:
         """By all timetables, also if a span is longer than a period."""
-        for seed in range(100, 100 + max(2, 12 // PATIENCE)):
+        for seed in range(100, 100 + max(2, 12 // SLOWER)):
             bench, draw = self.small(seed)
             activity, before = draw.choice(list(bench.network.activities.values())), state_of(bench)
             last = min(activity.upper, activity.lower + bench.period - 1)
@@ -92,7 +92,7 @@ class Equal(Case):
 
     def test_within(self) -> None:
         """Up to a cost they are the same, and above it a bound reports that."""
-        for seed in range(200, 200 + max(2, 12 // PATIENCE)):
+        for seed in range(200, 200 + max(2, 12 // SLOWER)):
             bench, draw = self.small(seed)
             event, activity, cap = draw.choice(bench.network.events), draw.choice(list(bench.network.activities)), draw.randrange(12)
             for prices, capped in [(bench.prices(event=event), bench.prices(event=event, within=cap)),

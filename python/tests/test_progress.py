@@ -15,7 +15,7 @@ from pespbench import BadReply, Bench, Ended, Engine, Found, Infeasible, Network
 from pespbench.library import Told, ToldFound
 from pespbench.transport import OutOfTime, Reached
 from pespbench.work import Work
-from tests.common import LONG, PATIENCE, SOON, Case, over_both
+from tests.common import LONG, SLOWER, SOON, Case, over_both
 from tests.stand_in_library import MEMORY, Answer, StandIn, usual
 
 
@@ -485,7 +485,7 @@ class Real(Case):
         """On random networks the end is the optimum, reports never get worse, and nothing has changed."""
         draw, ends = random.Random(5), set()
         with self.drawn(5, 6, 10, period=10, room=3) as bench:
-            for place in range(80 // PATIENCE):
+            for place in range(80 // SLOWER):
                 spans = [(draw.randrange(10), draw.randint(1, 7)) for _ in range(10)]
                 bench.many(f"span {number} {lower} {lower + length}" for number, (lower, length) in enumerate(spans))
                 bench.set_times({event: draw.randrange(10) for event in range(6)})

@@ -17,7 +17,7 @@ from pespbench import Bench, Fault, Infeasible, Lost, Optimum, Refused, optimum_
 from pespbench.network import Activity, Network
 from pespbench.parts import parts_of, ranges_of
 from pespbench.workers import Bar
-from tests.common import PATIENCE, Case, over_both
+from tests.common import SLOWER, Case, over_both
 from tests.test_progress import interrupt_when
 
 
@@ -93,7 +93,7 @@ class Variants(Small):
 
     def test_a_worker_is_ended(self) -> None:
         """One worker dies in the middle of many variants: all are answered, in their order."""
-        lists = drawn_lists(1_000 // PATIENCE)
+        lists = drawn_lists(1_000 // SLOWER)
         with self.small(1) as bench:
             wanted = one_by_one(bench, lists)
             with at_step(len(lists) * 3 // 10, end_one):
@@ -161,7 +161,7 @@ class Parts(Small):
         """On small networks the optimum in parts is the optimum, its text byte for byte."""
         seen = set()
         with ThreadPoolExecutor(3) as executor:
-            for seed in range(200 // PATIENCE):
+            for seed in range(200 // SLOWER):
                 with self.small(seed) as bench:
                     if seed % 3 == 0:
                         bench.many(f"span {number} {seed * number % 10} {seed * number % 10 + 2}" for number in range(6))

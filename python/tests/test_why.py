@@ -13,9 +13,9 @@ from pespbench.why import Conflict, Member, Mend, Of, Possible, Span, Undecided,
 from pespbench.why.members import Bounds, Held
 from pespbench.why.shapes import Circle
 from pespbench.wording import Names
-from tests.common import PATIENCE, PROGRAM, Case, over_both
+from tests.common import PROGRAM, SLOWER, Case, over_both
 
-NETWORKS = 1_000 // PATIENCE
+NETWORKS = 1_000 // SLOWER
 # Long enough for an unproved program under Node, which takes a hundred times as long.
 SECONDS = 1_000.0
 

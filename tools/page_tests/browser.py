@@ -9,6 +9,8 @@ import tempfile
 import threading
 from typing import Any, Dict, List, Optional, Sequence, Tuple, Union
 
+from tests.harness import patient
+
 NAMES = ("chromium", "chromium-browser", "google-chrome")
 QUIET = (
     "--headless=new",
@@ -130,7 +132,7 @@ class Browser:
         """The result of a method of the protocol."""
         sent = self._send(method, params)
         while True:
-            answer = self._answers.get(timeout=SECONDS)
+            answer = self._answers.get(timeout=patient(SECONDS))
             if answer["id"] is None:
                 # A later request fails at once, too.
                 self._answers.put(answer)
@@ -161,7 +163,7 @@ class Browser:
     def until(self, condition: str, seconds: int = PATIENCE) -> Any:
         """Waits until an expression is true."""
         waits = f"""new Promise((done, fail) => {{
-            const end = performance.now() + {1000 * seconds};
+            const end = performance.now() + {1000 * patient(seconds)};
             const look = () => {{
                 let held = false;
                 try {{ held = {condition}; }} catch (fault) {{ }}

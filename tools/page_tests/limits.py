@@ -10,7 +10,7 @@ from typing import Dict, List
 from page_tests.hands import TWO_TRAINS, Hands
 from page_tests.searching import DONE
 from page_tests.untouched import placed
-from tests.harness import Suite, within
+from tests.harness import Suite, patient, within
 
 LONGEST = 67_108_864
 # The greatest time to draw, on a machine on which other tests run too.
@@ -124,7 +124,7 @@ def drawn_in_time(suite: Suite, page: Hands, name: str, tab: str, wanted: str) -
     page.press(f"tab-{tab}")
     page.drawn()
     told = page.ask(f"Page.find('view-{tab}').innerText")
-    suite.holds(f"{name}, {tab}, in {time.monotonic() - began:.1f} s", time.monotonic() - began < SECONDS)
+    suite.holds(f"{name}, {tab}, in {time.monotonic() - began:.1f} s", time.monotonic() - began < patient(SECONDS))
     suite.holds(f"{name}, {tab}: {wanted}", wanted in told)
 
 
@@ -153,7 +153,7 @@ def elided(suite: Suite, page: Hands) -> None:
         began = time.monotonic()
         page.drop(*placed(folder, {"activities": many, "times": "1; 0\n2; 2\n", "period": "60"}))
         page.until(OPENED)
-        suite.holds(f"100,000 activities in {time.monotonic() - began:.1f} s", time.monotonic() - began < SECONDS)
+        suite.holds(f"100,000 activities in {time.monotonic() - began:.1f} s", time.monotonic() - began < patient(SECONDS))
     wanted = "Elided: of 100,000 activities at this event the first 200 are shown."
     suite.holds(wanted, wanted in page.text("#activities"))
     wanted = "Elided: of 100,000 that are violated the first 500 are shown."

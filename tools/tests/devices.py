@@ -18,6 +18,7 @@ from tests.harness import (
     Came,
     Suite,
     Words,
+    patient,
     closed_pipe,
     record,
     rows_of,
@@ -72,7 +73,7 @@ def closing_reader(suite: Suite) -> None:
             began.stdin.close()
         except BrokenPipeError:
             pass
-        came = {"first": first, "status": began.wait(SECONDS), "standard error": began.stderr.read()}
+        came = {"first": first, "status": began.wait(patient(SECONDS)), "standard error": began.stderr.read()}
         began.stderr.close()
         wanted = {"first": b"ok\n", "status": 1, "standard error": NOT_WRITTEN}
         suite.note(f"a reader that goes after the first reply, number {number}", wanted, came)
@@ -105,7 +106,7 @@ def slow_reader(suite: Suite) -> None:
     assert begun.stdout is not None
     time.sleep(0.5)
     output = begun.stdout.read()
-    status = begun.wait(SECONDS)
+    status = begun.wait(patient(SECONDS))
     begun.stdout.close()
     wanted = {"status": 0, "standard output": rules.replies(10, rows, {}, {1: 0, 2: 3})}
     suite.note("a reader that comes late", wanted, {"status": status, "standard output": output})
@@ -121,7 +122,7 @@ def late_reader(suite: Suite) -> None:
     time.sleep(0.5)
     output = began.stdout.read()
     script = b"# period 10 lines 4\nadd event 1\nadd event 2\nadd activity 1 1 2 3 5 2\nadd activity 2 2 1 4 6 1\n"
-    came = {"status": began.wait(SECONDS), "standard output": output}
+    came = {"status": began.wait(patient(SECONDS)), "standard output": output}
     began.stdout.close()
     suite.note("replies wait for their reader", {"status": 0, "standard output": script * 50_000}, came)
 

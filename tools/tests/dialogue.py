@@ -11,10 +11,9 @@ from typing import Callable, Dict, List, Sequence
 from tests import model
 from tests.commands import model_of
 from tests.file_cases import TWO
-from tests.harness import SECONDS, Suite, within
+from tests.harness import SECONDS, Suite, patient, within
 from tests.streams import drawn_lines, followed
 
-PATIENCE = SECONDS
 NOTHING = "nothing in time"
 
 
@@ -26,7 +25,7 @@ class Dialogue:
         assert self.process.stdin is not None and self.process.stdout is not None
         self.given, self.told = self.process.stdin, self.process.stdout
         self.held = b""
-        self.patience = PATIENCE
+        self.patience = patient(SECONDS)
 
     def send(self, data: bytes) -> None:
         try:
@@ -60,7 +59,7 @@ class Dialogue:
         self.given.close()
         rest = self.told.read()
         self.told.close()
-        return {"status": self.process.wait(SECONDS), "rest": self.held + rest}
+        return {"status": self.process.wait(patient(SECONDS)), "rest": self.held + rest}
 
     def __enter__(self) -> "Dialogue":
         return self
@@ -150,12 +149,12 @@ def terminal(suite: Suite) -> None:
     assert process.stdout is not None
     os.close(slave)
     os.write(master, b"cost\n")
-    ready = select.select([process.stdout], [], [], PATIENCE)[0]
+    ready = select.select([process.stdout], [], [], patient(SECONDS))[0]
     came = os.read(process.stdout.fileno(), 100) if ready else b""
     suite.note("a typed line", {"reply": b"cost 0\n"}, {"reply": came})
     os.write(master, b"\x04")
     try:
-        status: object = process.wait(PATIENCE)
+        status: object = process.wait(patient(SECONDS))
     except subprocess.TimeoutExpired:
         process.kill()
         status = process.wait() and "still running"

@@ -28,6 +28,18 @@ NOT_WRITTEN = b"pespbench: replies cannot be written\n"
 NOT_READ = b"pespbench: commands cannot be read\n"
 
 
+def patient(seconds: float) -> float:
+    """A limit of time, the multiple of it that `--patience` asks for."""
+    return seconds * int(os.environ.get("PESPBENCH_PATIENCE") or 1)
+
+
+def positive(word: str) -> int:
+    """A whole number above 0, for argparse."""
+    if int(word) < 1:
+        raise ValueError
+    return int(word)
+
+
 class Some:
     """Matches every nonempty text."""
 
@@ -108,9 +120,9 @@ def run(
     source: Dict[str, Any] = {} if "stdin" in how else {"stdin": subprocess.DEVNULL} if given is None else {"input": given}
     words: List[Union[str, bytes]] = [word if isinstance(word, bytes) else str(word) for word in command]
     try:
-        done: "subprocess.CompletedProcess[bytes]" = subprocess.run(words, stdout=stdout, stderr=stderr, timeout=seconds, check=False, **source, **how)
+        done: "subprocess.CompletedProcess[bytes]" = subprocess.run(words, stdout=stdout, stderr=stderr, timeout=patient(seconds), check=False, **source, **how)
     except subprocess.TimeoutExpired:
-        return {"status": f"none within {seconds} seconds", "standard output": b"", "standard error": b""}
+        return {"status": f"none within {patient(seconds)} seconds", "standard output": b"", "standard error": b""}
     except OSError as fault:
         return {"status": f"it does not start: {fault}", "standard output": b"", "standard error": b""}
     return {

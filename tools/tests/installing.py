@@ -9,7 +9,7 @@ import sys
 from pathlib import Path
 from typing import Any, Dict, List, Tuple
 
-from tests.harness import NOT_READ, NOT_WRITTEN, TOP, VERSION, VERSION_NUMBER, Came, Suite, run, within
+from tests.harness import NOT_READ, NOT_WRITTEN, TOP, VERSION, VERSION_NUMBER, Came, Suite, patient, run, within
 from tests.prices import draws_prices
 from tests.streams import drawn_lines
 
@@ -122,7 +122,7 @@ def installed_at_once(suite: Suite) -> None:
     prefix = suite.folder / "prefix"
     for turn in range(3):
         several = [subprocess.Popen([INSTALL, prefix], env=surroundings(suite), stdout=subprocess.DEVNULL, stderr=subprocess.PIPE) for _ in range(4)]
-        told = [(each.communicate(timeout=100)[1], each.returncode) for each in several]
+        told = [(each.communicate(timeout=patient(100))[1], each.returncode) for each in several]
         suite.note(f"four at once, {turn}", {"told": [(b"", 0)] * 4}, {"told": told})
         is_whole(suite, f"four at once, {turn}", prefix)
 

@@ -13,7 +13,7 @@ from typing import Callable, Dict, Mapping, Optional, Sequence, Tuple
 from tests import arguments, checks, commands, devices, dialogue, documents, drawing, drawn_cases, embedded, examples, files, helping, installing, layout
 from tests import limited, module_program, package, packaging, page_module, quick_model, rows, scripts, several, shelves, solvers, sources, start_script, strangers, streams, unproved
 from tests import without_proof, wording, written
-from tests.harness import PROGRAM, Suite
+from tests.harness import PROGRAM, Suite, positive
 
 # A group of tests, a function with a name.
 Group = Callable[[Suite], None]
@@ -86,7 +86,8 @@ def main(words: Optional[Sequence[str]]) -> int:
     parser = argparse.ArgumentParser(prog="tools/test_program", description="Runs the tests of the built programs.")
     parser.add_argument("--list", action="store_true", help="print the names of the groups, and the seconds of each")
     parser.add_argument("--only", action="append", metavar="NAME", choices=groups(), help="run only this group")
-    parser.add_argument("--patience", type=int, default=1, metavar="N", help="give each group N times its seconds, over a slower program, and have the package's tests draw N times fewer")
+    parser.add_argument("--patience", type=positive, default=1, metavar="N", help="make each limit of time N times as long, on a slow or busy machine")
+    parser.add_argument("--slower", type=positive, default=1, metavar="N", help="give each group N times its seconds, over a program so much slower, and have the package's tests draw N times fewer")
     parser.add_argument("program", nargs="?", type=pathlib.Path, default=PROGRAM, help="the program [default: the built one]")
     chosen = parser.parse_args(words)
     if chosen.list:
@@ -96,5 +97,5 @@ def main(words: Optional[Sequence[str]]) -> int:
     if not os.access(program, os.X_OK):
         parser.error(f"there is no program at {program}")
     # The tests of the Python package read it from there.
-    os.environ["PESPBENCH_PATIENCE"] = str(chosen.patience)
-    return run_all({name: group for name, group in groups().items() if not chosen.only or name in chosen.only}, program, chosen.patience)
+    os.environ.update(PESPBENCH_PATIENCE=str(chosen.patience), PESPBENCH_SLOWER=str(chosen.slower))
+    return run_all({name: group for name, group in groups().items() if not chosen.only or name in chosen.only}, program, chosen.patience * chosen.slower)

@@ -10,7 +10,7 @@ from pathlib import Path
 from typing import Callable, Dict, List, Sequence
 
 from tests.embedded import shared_library
-from tests.harness import TOP, Suite, within
+from tests.harness import TOP, Suite, patient, within
 
 PYTHON, TOOLS = TOP / "python", TOP / "tools"
 # Debian's own Python, for which its packages are made.
@@ -92,7 +92,7 @@ def python_mpi(suite: Suite) -> None:
         return
     told = []
     for words in [[SYSTEM, *OVER_MPI[6:-1]], OVER_MPI]:
-        told.append(subprocess.run(words, cwd=TOP, env=surroundings, stdout=subprocess.PIPE, timeout=100).stdout)
+        told.append(subprocess.run(words, cwd=TOP, env=surroundings, stdout=subprocess.PIPE, timeout=patient(100)).stdout)
     suite.holds("python: examples/on_a_cluster.py tells something", told[0].count(b"\n") == 9)
     suite.holds("python: examples/on_a_cluster.py tells the same over MPI", told[0] == told[1])
 

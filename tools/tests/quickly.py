@@ -1,6 +1,7 @@
 """The tests that need no proof, a few parts at once."""
 
 import argparse
+import difflib
 import os
 import re
 import shlex
@@ -9,15 +10,15 @@ import subprocess
 import sys
 import tempfile
 import time
-from concurrent.futures import ThreadPoolExecutor, as_completed
+from concurrent.futures import FIRST_COMPLETED, ThreadPoolExecutor, wait
 from functools import partial
 from pathlib import Path
-from typing import Callable, Collection, List, NamedTuple, Sequence, Tuple
+from typing import Callable, Collection, Dict, List, NamedTuple, Sequence, Tuple
 
 from page_tests.browser import found as browser
 from tests import main as whole
 from tests.case_files import told, write_cases
-from tests.harness import TOP
+from tests.harness import TOP, patient, positive
 from tests.module_program import MODULE
 
 CRATES = ["pesp_tests_search", "pesp_tests_core", "pesp_tests_text", "pesp_tests_shell"]
@@ -26,7 +27,9 @@ CRATES = ["pesp_tests_search", "pesp_tests_core", "pesp_tests_text", "pesp_tests
 PROGRAM_ALONE = ["want_of_memory", "memory_of_commands", "embedded", "page_module", "module_rows", "module_streams"]
 PROGRAM_ALONE += ["look_for_sources", "documents_of_what_is_built"]
 # The module starts more slowly than the program, and other parts run at the same time.
-PATIENCE = "4"
+SLOWER = "4"
+# The seconds after which the parts that run are reported again.
+SILENT = 20
 # The longest ones, which start first, so that none of them runs alone at the end.
 LONGEST = ["the program's rows and streams", "the page in a browser", "python_why", "pesp_tests_text", "pesp_tests_shell"]
 LONGEST += ["python_variants", "python_files", "damaged_files", "pesp_tests_core", "drawn_streams"]
@@ -68,7 +71,7 @@ def counted(words: Sequence[object], folder: Path = TOP) -> Counts:
 
 
 def crate(name: str) -> Counts:
-    status, output = called(["rt", "try", "--test", "--seconds", "300"], TOP / "crates" / name)
+    status, output = called(["rt", "try", "--test", "--seconds", patient(300)], TOP / "crates" / name)
     return output.count("... ok\n"), int(status != 0), output
 
 
@@ -76,7 +79,7 @@ def cases() -> Counts:
     """The program, built once without a proof, over rows and streams whose replies are known."""
     with tempfile.TemporaryDirectory() as name:
         wanted, data = write_cases(Path(name))
-        words = ["rt", "try", "--steps", "1000", "--seconds", "600", *data, "--cases", str(Path(name) / "cases")]
+        words = ["rt", "try", "--steps", "1000", "--seconds", str(patient(600)), *data, "--cases", str(Path(name) / "cases")]
         done = subprocess.run(words, cwd=TOP / "crates/pespbench", capture_output=True, text=True, errors="replace")
         wrong = told(done.stdout, done.stderr, wanted)
     tail = "" if done.returncode == 0 else "\n".join(done.stderr.splitlines()[-20:])
@@ -91,23 +94,25 @@ def in_its_place(folder: str) -> Path:
     return path
 
 
-def parts(program: Path) -> List[Part]:
+def parts(program: Path, patience: int) -> List[Part]:
     """All parts, the longest first."""
+    how: List[object] = ["--patience", patience]
     found = [Part("the program's rows and streams", ["rt", "node"], cases)]
     found += [Part(name, ["rt"], partial(crate, name)) for name in CRATES]
-    found.append(Part("the page in a browser", ["browser"], lambda: counted([sys.executable, TOP / "tools/test_page"])))
+    found.append(Part("the page in a browser", ["browser"], lambda: counted([sys.executable, TOP / "tools/test_page", *how])))
     for name in whole.groups():
         if name not in PROGRAM_ALONE:
-            words = [sys.executable, TOP / "tools/test_program", "--patience", PATIENCE, "--only", name, program]
+            words: List[object] = [sys.executable, TOP / "tools/test_program", *how, "--slower", SLOWER, "--only", name, program]
             wants = ["node", *filter(None, [MORE.get(name)])]
             found.append(Part(name, wants, partial(counted, words)))
     return sorted(found, key=lambda part: LONGEST.index(part.name) if part.name in LONGEST else len(LONGEST))
 
 
-def timed(part: Part) -> Tuple[int, int, str, float]:
-    began = time.monotonic()
-    passed, failed, output = part.run()
-    return passed, failed, output, time.monotonic() - began
+def timed(part: Part, began: Dict[str, float]) -> Tuple[int, int, str, float]:
+    """What a part gives, with its seconds; it is among those that run until then."""
+    began[part.name] = time.monotonic()
+    counts = part.run()
+    return (*counts, time.monotonic() - began.pop(part.name))
 
 
 def set_up(wanted: Collection[str], is_whole: bool) -> None:
@@ -119,26 +124,46 @@ def set_up(wanted: Collection[str], is_whole: bool) -> None:
 
 
 def run_all(chosen: Sequence[Part], jobs: int) -> Tuple[int, int]:
+    """What all give; each is told as it ends, and from the first second on what runs, what is done and what is left."""
     passed = failed = 0
+    began: Dict[str, float] = {}
     with ThreadPoolExecutor(jobs) as threads:
-        running = {threads.submit(timed, part): part for part in chosen}
-        for future in as_completed(running):
-            good, bad, output, seconds = future.result()
-            if bad:
-                print(output.rstrip())
-            print(f"{running[future].name}: {good} passed, {bad} failed, {seconds:.1f} s", flush=True)
-            passed, failed = passed + good, failed + bad
+        left = {threads.submit(timed, part, began): part.name for part in chosen}
+        tell_at = time.monotonic() + 0.5
+        while left:
+            ended, _ = wait(left, max(0, tell_at - time.monotonic()), FIRST_COMPLETED)
+            for future in ended:
+                good, bad, output, seconds = future.result()
+                if bad:
+                    print(output.rstrip())
+                print(f"{left.pop(future)}: {good} passed, {bad} failed, {seconds:.1f} s", flush=True)
+                passed, failed = passed + good, failed + bad
+            if left and time.monotonic() >= tell_at:
+                print(progress(len(chosen), len(left), dict(began)), flush=True)
+                tell_at = time.monotonic() + SILENT
     return passed, failed
+
+
+def progress(count: int, left: int, began: Dict[str, float]) -> str:
+    """How many parts are done and wait, and which run, for how many seconds."""
+    runs = ", ".join(f"{name} ({time.monotonic() - since:.0f} s)" for name, since in began.items())
+    return f"tools/test: {count - left} of {count} parts are done, {left - len(began)} wait, and these run: {runs}"
 
 
 def main(words: Sequence[str]) -> int:
     parser = argparse.ArgumentParser(prog="tools/test", description="Runs the tests without proving anything.")
     parser.add_argument("--list", action="store_true", help="print the names of the parts")
     parser.add_argument("--only", action="append", metavar="NAME", help="run only this part")
+    parser.add_argument("--patience", type=positive, default=1, metavar="N", help="make each limit of time N times as long, on a slow or busy machine")
     parser.add_argument("--jobs", type=int, default=min(4, os.cpu_count() or 1), help="how many parts run at once")
     chosen = parser.parse_args(words)
+    os.environ["PESPBENCH_PATIENCE"] = str(chosen.patience)
     with tempfile.TemporaryDirectory() as folder:
-        return of_parts(chosen, [part for part in parts(in_its_place(folder)) if not chosen.only or part.name in chosen.only])
+        known = {part.name: part for part in parts(in_its_place(folder), chosen.patience)}
+        for name in filter(lambda name: name not in known, chosen.only or []):
+            like = difflib.get_close_matches(name, known, 1)
+            parser.error(f"there is no part {name!r}; " + (f"there is {like[0]!r}" if like else "--list names them"))
+        return of_parts(chosen, [part for name, part in known.items() if not chosen.only or name in chosen.only])
 
 
 def of_parts(words: argparse.Namespace, known: Sequence[Part]) -> int:

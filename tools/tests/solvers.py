@@ -11,7 +11,7 @@ from unittest import mock
 from measuring.solvers import network_of
 from pespbench.models import by_cycles
 from pespbench.models.basis import Arc, independent, is_integral, range_of
-from tests.harness import Suite, run, within
+from tests.harness import Suite, patient, run, within
 from tests.rules import Row
 
 NETWORKS = 200
@@ -72,7 +72,7 @@ def try_networks(suite: Suite, solver: str, title: str, numbers: Iterable[int], 
     path = suite.folder / "model.lp"
     for number in numbers:
         if time.monotonic() > ends:
-            print(f"  {title}: drawn networks from {number} on were not tried, since {SECONDS} seconds are over")
+            print(f"  {title}: drawn networks from {number} on were not tried, since {patient(SECONDS)} seconds are over")
             return
         period, rows, fixed = drawn_network(random.Random(number))
         path.write_text(by_cycles(network_of(rows, fixed, period)).lp())
@@ -104,7 +104,7 @@ def cycles(suite: Suite) -> None:
     if not solver:
         print("  the formulation by cycles was not tried: neither glpsol nor cbc is here")
         return
-    ends = time.monotonic() + SECONDS
+    ends = time.monotonic() + patient(SECONDS)
     try_networks(suite, solver, "by narrow cycles", range(NETWORKS), ends)
     with mock.patch("pespbench.models.basis.is_integral", return_value=False):
         try_networks(suite, solver, "by cycles over least ways", range(OTHERS), ends)

@@ -8,7 +8,7 @@ import subprocess
 import time
 from typing import List
 
-from tests.harness import SECONDS, TOP, Suite, run
+from tests.harness import SECONDS, TOP, Suite, patient, run
 from tests.start_tree import SYSTEM, Tree
 
 FIRST = ["building the program; the first time takes about", "minutes of a processor", "crate pesp_base is proved"]
@@ -58,7 +58,7 @@ def shared_build(suite: Suite) -> None:
     suite.note("the second of two starts says that it waits", {"told": f"tools/pespbench: {WAITS}\n"}, {"told": told})
     tree.say("waits", False)
     for name, process in {"first": first, "second": second}.items():
-        output, _ = process.communicate(timeout=SECONDS)
+        output, _ = process.communicate(timeout=patient(SECONDS))
         come = {"status": process.returncode, "output": output}
         suite.note(f"the {name} of two starts", {"status": 0, "output": tree.ran()}, come)
     suite.holds("two starts at once share one build", len(tree.calls()) == 1)
@@ -108,7 +108,7 @@ def broken_off(suite: Suite, name: str, has_program: bool) -> None:
     process = tree.begin()
     tree.is_half_made()
     process.send_signal(getattr(signal, name))
-    output, _ = process.communicate(timeout=SECONDS)
+    output, _ = process.communicate(timeout=patient(SECONDS))
     toolchain = int(tree.calls()[-1].split()[1])
     files = [path.name for path in (tree.crate / "out").iterdir()]
     wanted = {"status": 128 + getattr(signal, name), "output": b"", "toolchain": False, "files": []}

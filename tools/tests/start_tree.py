@@ -6,7 +6,7 @@ import subprocess
 import time
 from typing import Dict, List, Optional, Sequence
 
-from tests.harness import SECONDS, TOP, Suite, run
+from tests.harness import SECONDS, TOP, Suite, patient, run
 
 SYSTEM = "/usr/bin:/bin"
 
@@ -86,7 +86,7 @@ class Tree:
 
     def is_half_made(self) -> None:
         """Waits until the toolchain has made a part of the program."""
-        program, end = self.crate / "out/pespbench", time.monotonic() + SECONDS
+        program, end = self.crate / "out/pespbench", time.monotonic() + patient(SECONDS)
         while not (program.exists() and b"half" in program.read_bytes()):
             if time.monotonic() > end:
                 raise TimeoutError("the toolchain makes no program")

@@ -1,6 +1,7 @@
 """The script that starts the program, told to make one without a proof; the stand-in answers."""
 
 import os
+import re
 import shutil
 import subprocess
 import sys
@@ -140,4 +141,47 @@ def first_commands(suite: Suite) -> None:
     suite.note("tools/test without Node", wanted, {**come, "ends": come["standard output"][-len(lines):]})
 
 
-GROUPS = [unproved, unproved_lines, wanted_commands, first_commands]
+# In the place of the toolchain: it notes its words, and ends when it may.
+FAKE_TOOLCHAIN = """#!/bin/sh
+echo "$@" >"$FAKE/words"
+until [ -e "$FAKE/go" ]; do sleep 0.05; done
+echo "a test ... ok"
+"""
+
+
+def quick_tests(suite: Suite) -> None:
+    """tools/test says from the first what runs, is done and waits; its limits of time are multiplied, and an unknown part is named."""
+    wanted = {"status": 2, "standard output": b""}
+    for words, told in [
+        (["--only", "nothing"], "there is no part 'nothing'; --list names them\n"),
+        (["--only", "helping", "--only", "drawn_stream"], "there is no part 'drawn_stream'; there is 'drawn_streams'\n"),
+        (["--patience", "0"], "argument --patience: invalid positive value: '0'\n"),
+    ]:
+        come = run([TOP / "tools/test", *words])
+        suite.note(f"tools/test {words}", {**wanted, "told": f"tools/test: error: {told}"}, {**come, "told": come["standard error"].decode().partition("\n")[2]})
+    (suite.folder / "rt").write_text(FAKE_TOOLCHAIN)
+    (suite.folder / "rt").chmod(0o755)
+    env = {**os.environ, "PATH": f"{suite.folder}:{os.environ['PATH']}", "FAKE": str(suite.folder)}
+    words = [str(TOP / "tools/test"), *"--only pesp_tests_core --only pesp_tests_text --jobs 1 --patience 3".split()]
+    with subprocess.Popen(words, env=env, stdout=subprocess.PIPE, text=True) as process:
+        assert process.stdout is not None
+        first = [process.stdout.readline() for _ in range(2)]
+        given = (suite.folder / "words").read_text()
+        (suite.folder / "go").touch()
+        rest = process.stdout.read().splitlines()
+    lines = ["tools/test: nothing is proved here; .ci/run proves everything", "tools/test: 0 of 2 parts are done, 1 wait, and these run: pesp_tests_text (S s)"]
+    suite.note("before anything is done", {"lines": lines, "given": "try --test --seconds 900\n"}, {"lines": timeless(first), "given": given})
+    lines = [f"pesp_tests_{name}: 1 passed, 0 failed, S s" for name in ("text", "core")]
+    suite.note("what is done", {"lines": [*lines, "tools/test: nothing of this was proved", "2 passed, 0 failed"]}, {"lines": timeless(rest)})
+    for patience, status in [("1", "none within 1 seconds"), ("60", 0)]:
+        come_late = f"import sys; sys.path[:0] = ['{TOP / 'tools'}']; from tests.harness import run; print(run(['sleep', '3'], seconds=1)['status'])"
+        come = run([sys.executable, "-B", "-c", come_late], env={**os.environ, "PESPBENCH_PATIENCE": patience})
+        suite.note(f"a run at patience {patience}", {"standard output": f"{status}\n".encode()}, come)
+
+
+def timeless(lines: Sequence[str]) -> List[str]:
+    """The lines without their seconds."""
+    return [re.sub(r"[\d.]+ s\b", "S s", line.rstrip("\n")) for line in lines]
+
+
+GROUPS = [unproved, unproved_lines, wanted_commands, first_commands, quick_tests]
