@@ -88,6 +88,10 @@ class Suite:
             print(f"  {title} wanted: {short(wanted[title])}")
             print(f"  {title} came:   {short(came[title])}", flush=True)
 
+    def has_passed(self) -> bool:
+        """Whether no case of the group has failed yet."""
+        return "f" not in self.tally.read_text()
+
     def holds(self, name: str, fact: object) -> None:
         """One case that is true or false."""
         self.note(name, {"it": True}, {"it": bool(fact)})

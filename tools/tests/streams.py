@@ -2,16 +2,19 @@
 
 import copy
 import random
-from typing import Any, Dict, List, Optional, Sequence
+import time
+from typing import Any, Callable, Dict, List, Optional, Sequence
 
 from tests import model
 from tests.changes import keeps
 from tests.commands import model_of
 from tests.file_cases import TWO
-from tests.harness import Suite, run, within
+from tests.harness import Suite, patient, run, within
 from tests.limits import GREATEST_PERIOD
 from tests.parsing import COMMANDS, EDITS, LONGEST_LINE, MOST_LINES, Fault, parse
 
+# The most seconds in which lines are left out of a wrong stream.
+SHORTENING = 20
 COUNTED = {"domains": 1, "tensions": 1, "violations": 1, "optimum": 2, "stopped": 2, "#": 4}
 
 
@@ -169,11 +172,42 @@ def knows(before: Optional[model.Model], after: model.Model, line: bytes, reply:
     return before is not None and (not is_edited or keeps(before, after, name, numbers))
 
 
+def shortened(lines: Sequence[bytes], is_wrong: Callable[[Sequence[bytes]], bool]) -> List[bytes]:
+    """Lines of a wrong stream that are wrong alone: halves are left out first, then smaller parts, as long as there is time."""
+    left, size, until = list(lines), len(lines), time.monotonic() + patient(SHORTENING)
+    while size := size // 2:
+        for end in range(len(left), 0, -size):
+            fewer = left[: max(0, end - size)] + left[end:]
+            if time.monotonic() < until and is_wrong(fewer):
+                left = fewer
+    return left
+
+
 def play(suite: Suite, name: str, bench: model.Model, words: Sequence[object], lines: Sequence[bytes]) -> None:
-    came = run([suite.program, *words], given=b"\n".join(lines))
+    """Compares the replies to a stream; the first wrong one of a group is reported by few lines that are wrong alone."""
     wanted = {"status": 0, "standard error": b"", "first reply that is wrong": None}
-    wrong = compared(bench, lines, came["standard output"])
-    suite.note(name, wanted, {**came, "first reply that is wrong": wrong})
+
+    def played(lines: Sequence[bytes]) -> Dict[str, object]:
+        came = run([suite.program, *words], given=b"\n".join(lines))
+        return {**came, "first reply that is wrong": compared(copy.deepcopy(bench), lines, came["standard output"])}
+
+    def is_wrong(came: Dict[str, object]) -> bool:
+        return any(came[title] != wanted[title] for title in wanted)
+
+    came = played(lines)
+    if is_wrong(came) and suite.has_passed():
+        lines = shortened(lines, lambda fewer: is_wrong(played(fewer)))
+        came = played(lines)
+        name += ", by these lines alone: " + " / ".join(line.decode() for line in lines)
+    suite.note(name, wanted, came)
+
+
+def shortened_streams(suite: Suite) -> None:
+    """What is left of a wrong stream is wrong, and of its lines those that are not needed are gone."""
+    lines = [b"%d" % number for number in range(60)]
+    for needed in ([b"0"], [b"59"], [b"7", b"8", b"40"], lines[10:20]):
+        left = shortened(lines, lambda fewer: [line for line in fewer if line in needed] == needed)
+        suite.note(f"{needed} of 60 lines", {"left": needed}, {"left": left})
 
 
 @within(300)
@@ -198,4 +232,4 @@ def long_streams(suite: Suite) -> None:
             play(suite, f"drawn stream {number} at period {period}", model.Model(period), ["--period", str(period)], lines)
 
 
-GROUPS = [longest_line, number_of_lines, many_cheap_lines, drawn_streams, long_streams]
+GROUPS = [longest_line, number_of_lines, many_cheap_lines, drawn_streams, long_streams, shortened_streams]
