@@ -41,6 +41,13 @@ class Kept:
         self.removed = 0
         self.most_probes = 0
 
+    def can_follow(self, line: str) -> bool:
+        """Whether both keepers can: no edit where something is pushed, no event twice, and no more is taken back than was pushed."""
+        if line.startswith("push "):
+            event = int(line.split()[2])
+            return event in self.network.events and event not in self.pushed
+        return bool(self.pushed) == (line == "pop")
+
     def follow(self, line: str) -> Wanted:
         """Executes the line, and returns the program's expected output."""
         rows = [self.answer(line), *self.rows()]

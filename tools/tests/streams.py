@@ -3,7 +3,7 @@
 import copy
 import random
 import time
-from typing import Any, Callable, Dict, List, Optional, Sequence
+from typing import Any, AnyStr, Callable, Dict, List, Optional, Sequence
 
 from tests import model
 from tests.changes import keeps
@@ -172,7 +172,7 @@ def knows(before: Optional[model.Model], after: model.Model, line: bytes, reply:
     return before is not None and (not is_edited or keeps(before, after, name, numbers))
 
 
-def shortened(lines: Sequence[bytes], is_wrong: Callable[[Sequence[bytes]], bool]) -> List[bytes]:
+def shortened(lines: Sequence[AnyStr], is_wrong: Callable[[Sequence[AnyStr]], bool]) -> List[AnyStr]:
     """Lines of a wrong stream that are wrong alone: halves are left out first, then smaller parts, as long as there is time."""
     left, size, until = list(lines), len(lines), time.monotonic() + patient(SHORTENING)
     while size := size // 2:
