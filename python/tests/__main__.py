@@ -9,6 +9,7 @@ from __future__ import annotations
 
 import sys
 import time
+import traceback
 import unittest
 from pathlib import Path
 from typing import Any, List
@@ -33,21 +34,18 @@ class Lines(unittest.TestResult):
         super().addSkip(test, reason)
         self.tell("skipped", test, f": {reason}")
 
-    def addFailure(self, test: unittest.TestCase, err: Any) -> None:
-        super().addFailure(test, err)
-        self.tell("failed", test)
-        print(self.failures[-1][1], flush=True)
-
     def addSubTest(self, test: unittest.TestCase, subtest: unittest.TestCase, err: Any) -> None:
         super().addSubTest(test, subtest, err)
         if err is not None:
             self.tell("failed", subtest)
-            print([*self.failures, *self.errors][-1][1].splitlines()[-1], flush=True)
+            print("".join(traceback.format_exception_only(*err[:2])), end="", flush=True)
 
     def addError(self, test: unittest.TestCase, err: Any) -> None:
         super().addError(test, err)
         self.tell("failed", test)
         print(self.errors[-1][1], flush=True)
+
+    addFailure = addError
 
 
 def main(modules: List[str]) -> int:

@@ -1,13 +1,6 @@
 """Sets of residues of a period as numbers: the bit of a residue is set if the set contains it."""
 
-from typing import Iterable, List
-
-
-def bits_of(residues: Iterable[int]) -> int:
-    bits = 0
-    for residue in residues:
-        bits |= 1 << residue
-    return bits
+from typing import List
 
 
 def listed(bits: int) -> List[int]:
