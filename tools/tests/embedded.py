@@ -90,20 +90,25 @@ def asked_by(words: Sequence[str]) -> List[str]:
     return [given["--period"], given[""], given["--fixed"], given["--times"]]
 
 
-@within(480)
-def embedded(suite: Suite) -> None:
-    """The stories of examples/ that have commands, and random runs."""
-    made_of = callers(suite)
-    refusals(suite, made_of)
-    for language, words in made_of.items():
-        for folder in folders():
-            commands = content(folder / "commands", None)
-            if commands is None:
-                continue
-            wanted = {"status": int(content(folder / "status", b"0")), "standard output": content(folder / "expected")}
-            wanted["standard error"] = content(folder / "error")
+def stories(suite: Suite, made_of: Mapping[str, Sequence[object]]) -> None:
+    """The stories of examples/ that have commands, including refused ones."""
+    for folder in folders():
+        commands = content(folder / "commands", None)
+        if commands is None:
+            continue
+        wanted = {"status": int(content(folder / "status", b"0")), "standard output": content(folder / "expected")}
+        wanted["standard error"] = content(folder / "error")
+        for language, words in made_of.items():
             came = run([*words, *asked_by(words_of(folder))], given=commands, cwd=folder)
             suite.note(f"examples/{folder.name} in {language}", wanted, came)
+
+
+@within(480)
+def embedded(suite: Suite) -> None:
+    """The stories of examples/, and random runs."""
+    made_of = callers(suite)
+    refusals(suite, made_of)
+    stories(suite, made_of)
     if shared(suite).exists():
         module = answering()
         call = module.loaded(shared(suite))

@@ -10,8 +10,7 @@ from typing import Callable, Dict, List, Sequence, Tuple
 
 from hostile.in_process.building import C_FLAGS, HEADERS, WAYS, compiler, runtime
 from paging.tree import NotMade, run
-from tests.embedded import asked_by, refusals
-from tests.examples import content, folders, words_of
+from tests.embedded import refusals, stories
 from tests.harness import TOP, Suite
 from tests.harness import run as tried
 
@@ -52,19 +51,6 @@ def in_rust(folder: Path, heap: Path, library: Sequence[Path]) -> List[object]:
 
 # The function that builds the command of a caller, by its language.
 LANGUAGES: Dict[str, Callable[[Path, Path, Sequence[Path]], List[object]]] = {"Rust": in_rust, "Python": in_python, "C": in_c}
-
-
-def stories(suite: Suite, made: Dict[str, List[object]]) -> None:
-    """The stories of examples/ that have commands, including refused ones."""
-    for folder in folders():
-        commands = content(folder / "commands", None)
-        if commands is None:
-            continue
-        wanted = {"status": int(content(folder / "status", b"0")), "standard output": content(folder / "expected")}
-        wanted["standard error"] = content(folder / "error")
-        for language, words in made.items():
-            came = tried([*words, *asked_by(words_of(folder))], given=commands, cwd=folder)
-            suite.note(f"examples/{folder.name} in {language}", wanted, came)
 
 
 def crate(suite: Suite, library: Sequence[Path]) -> None:
