@@ -124,23 +124,23 @@ def set_up(wanted: Collection[str], is_whole: bool) -> None:
 
 
 def run_all(chosen: Sequence[Part], jobs: int) -> Tuple[int, int]:
-    """What all give; each is told as it ends, and from the first second on what runs, what is done and what is left."""
+    """Runs all, and prints each as it ends, and from the first second on what runs, is done and waits."""
     passed = failed = 0
     began: Dict[str, float] = {}
     with ThreadPoolExecutor(jobs) as threads:
         left = {threads.submit(timed, part, began): part.name for part in chosen}
-        tell_at = time.monotonic() + 0.5
+        print_at = time.monotonic() + 0.5
         while left:
-            ended, _ = wait(left, max(0, tell_at - time.monotonic()), FIRST_COMPLETED)
+            ended, _ = wait(left, max(0, print_at - time.monotonic()), FIRST_COMPLETED)
             for future in ended:
                 good, bad, output, seconds = future.result()
                 if bad:
                     print(output.rstrip())
                 print(f"{left.pop(future)}: {good} passed, {bad} failed, {seconds:.1f} s", flush=True)
                 passed, failed = passed + good, failed + bad
-            if left and time.monotonic() >= tell_at:
+            if left and time.monotonic() >= print_at:
                 print(progress(len(chosen), len(left), dict(began)), flush=True)
-                tell_at = time.monotonic() + SILENT
+                print_at = time.monotonic() + SILENT
     return passed, failed
 
 
