@@ -8,8 +8,7 @@ from pespbench.forms import add_form, in_form
 from pespbench.opening import add_network, open_network, seconds, whole
 from pespbench.terminal import tell
 from pespbench.why.finding import why
-from pespbench.why.tabling import table_of
-from pespbench.why.telling import text_of
+from pespbench.why.telling import table_of, text_of
 from pespbench.wording import Names
 
 

@@ -98,16 +98,14 @@ class Finding:
 
     def _is_seen_by_domains(self) -> bool:
         """Whether a domain is empty, with some event of each free part held; that event is held first from then on."""
-        if self._by_domains(list(self.probe.members)):
-            return True
         until = time.monotonic() + self.seconds
-        for event in self.probe.windows:
-            self.probe.preferred = [event]
+        for event in (None, *self.probe.events):
+            self.probe.preferred = event
             if self._by_domains(list(self.probe.members)):
                 return True
             if time.monotonic() > until:
                 break
-        self.probe.preferred = []
+        self.probe.preferred = None
         return False
 
     def _by_domains(self, members: Sequence[Member]) -> bool:
@@ -128,20 +126,11 @@ class Finding:
 
     def _conflict(self, members: list[Member]) -> Conflict:
         """The answer for a set; searches see more than domains, so some of its members may turn out to be unnecessary."""
-        members = settled(members, self._by_search)
-        kept = {member: self.probe.members[member] for member in sorted(members, key=by_kind)}
-        without = {member: self._without(members, member) for member in kept}
+        found = settled(members, self._by_search)
+        kept = {member: bounds for member, bounds in self.probe.members.items() if member in found}
+        without = {member: self.probe.by_search({each: kept[each] for each in kept if each != member}, self.nodes) for member in kept}
         shape = shape_of(kept, self.probe.activities, self.probe.period)
         mending = Mending(self.probe, kept, shape, self.nodes, self.lower)
         hard = frozenset() if self.is_usual and self.hard >= set(kept) else self.hard & set(kept)
         mends = mending.mends([member for member in kept if member not in hard], time.monotonic() + self.seconds)
         return Conflict(kept, hard, self.nodes, without, shape, mends)
-
-    def _without(self, members: list[Member], member: Member) -> Verdict:
-        return self.probe.by_search(self._kept([each for each in members if each != member]), self.nodes)
-
-
-def by_kind(member: Member) -> tuple[str, int]:
-    """A key by which activities come before events, each by number."""
-    return member.of.value, member.number
-

@@ -74,10 +74,7 @@ Kept = Mapping[Member, Bounds]
 def members_of(network: Network) -> dict[Member, Bounds]:
     """The members that exclude something: activities ascending, then events."""
     period = network.period
-    found: dict[Member, Bounds] = {}
-    for number, activity in sorted(network.activities.items()):
-        found[Member(Of.ACTIVITY, number)] = Span(activity.lower, activity.upper)
-    for event, window in sorted(network.windows.items()):
-        if window is not None:
-            found[Member(Of.EVENT, event)] = Held(window.first, window.length, period)
+    spans = {Member(Of.ACTIVITY, number): Span(each.lower, each.upper) for number, each in sorted(network.activities.items())}
+    held = {Member(Of.EVENT, event): Held(each.first, each.length, period) for event, each in sorted(network.windows.items()) if each}
+    found: dict[Member, Bounds] = {**spans, **held}
     return {member: bounds for member, bounds in found.items() if bounds.is_binding(period)}

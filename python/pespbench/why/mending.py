@@ -33,7 +33,7 @@ class Mending:
         """The least widening of a member, later if earlier takes as many minutes; None if none is found to repair it."""
         best: Optional[Mend] = None
         for is_later in (True, False) if self.lower or member.of is Of.EVENT else (True,):
-            count = self._least_count(member, is_later, best.minutes - 1 if best else self._most_count(member))
+            count = self._least_count(member, is_later, best.minutes - 1 if best else self.probe.period)
             if count is not None:
                 before = self.kept[member]
                 best = Mend(member, before, before.widened(count, is_later), count)
@@ -46,15 +46,15 @@ class Mending:
             return replace(mend, whole=Verdict.INFEASIBLE)
         return replace(mend, whole=self.probe.by_search(whole, self.nodes))
 
-    def _most_count(self, member: Member) -> int:
-        bounds, period = self.kept[member], self.probe.period
-        return period - bounds.length if isinstance(bounds, Held) else period - 1 - (bounds.upper - bounds.lower)
-
     def _least_count(self, member: Member, is_later: bool, most: int) -> Optional[int]:
         """The least number of minutes, up to a limit, that repairs; None if the limit does not."""
-        bounds = self.kept[member]
-        if isinstance(bounds, Span):
-            most = min(most, GREATEST_BOUND - bounds.upper if is_later else lowered_by(bounds.lower))
+        bounds, period = self.kept[member], self.probe.period
+        if isinstance(bounds, Held):
+            most = min(most, period - bounds.length)
+        else:
+            # A minimum does not fall below 0 unless it was there.
+            room = GREATEST_BOUND - bounds.upper if is_later else bounds.lower + (GREATEST_BOUND if bounds.lower < 0 else 0)
+            most = min(most, period - 1 - (bounds.upper - bounds.lower), room)
 
         def is_mended(count: int) -> bool:
             changed: Kept = {**self.kept, member: bounds.widened(count, is_later)}
@@ -67,16 +67,9 @@ class Mending:
         if self.shape is None:
             return 1
         (_, below), (above, _) = self.shape.wanted
-        step = next((each for each in self.shape.steps if each.activity.number == member.number), None)
-        is_longer = is_later if step is None or step.is_forward else not is_later
-        if isinstance(self.kept[member], Held):
-            is_longer = is_later == (member.number == self.shape.steps[0].start)
-        return above - self.shape.most if is_longer else self.shape.least - below
-
-
-def lowered_by(lower: int) -> int:
-    """By how many minutes the minimum can be lowered; it does not fall below 0 unless it was there."""
-    return lower if lower >= 0 else GREATEST_BOUND + lower
+        forward = [each.activity.number for each in self.shape.steps if each.is_forward]
+        is_along = member.number in forward if member.of is Of.ACTIVITY else member.number == self.shape.steps[0].start
+        return above - self.shape.most if is_later == is_along else self.shape.least - below
 
 
 def least_number(most: int, holds: Callable[[int], bool], guess: int) -> Optional[int]:

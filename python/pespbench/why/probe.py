@@ -6,6 +6,7 @@ others are released, so holding one of its events at 0 excludes no timetable tha
 
 from __future__ import annotations
 
+from collections import Counter
 from typing import Optional
 
 from pespbench.answers import Domain, Infeasible, Optimum, Stopped
@@ -24,18 +25,18 @@ class Probe:
 
     def __init__(self, bench: Bench) -> None:
         network = bench.network
-        self.bench, self.period = bench, network.period
+        self.bench, self.period, self.events = bench, network.period, network.events
         self.members = members_of(network)
         self.activities = dict(network.activities)
         self.ends = {number: (each.from_event, each.to_event) for number, each in network.activities.items()}
+        # The present spans and windows of the bench, and the events without an activity of the last set.
         self.spans = {number: Span(each.lower, each.upper) for number, each in network.activities.items()}
-        self.windows: dict[int, Optional[Window]] = dict(network.windows)
-        # The events without an activity of the last set.
+        self.held = {event: window for event, window in network.windows.items() if window}
         self.alone: set[int] = set()
-        # The events that are held in preference to others, in the parts that have them.
-        self.preferred: list[int] = []
+        # The event that is held in preference to others of its part.
+        self.preferred: Optional[int] = None
         self.known: dict[tuple[frozenset[tuple[Member, Bounds]], int], Verdict] = {}
-        self.roots = sorted({min(part) for part in parts_of(self.windows, self.ends.values())})
+        self.roots = sorted({min(part) for part in parts_of(self.events, self.ends.values())})
         # With all weights 0 a search ends with the first timetable.
         self._send([f"weight {number} 0" for number, each in network.activities.items() if each.weight])
 
@@ -65,55 +66,36 @@ class Probe:
         """The answers to questions about only the set; events without an activity of it are held if all are."""
         spans = {number: self._span(kept, number) for number in self.spans}
         changed = [number for number, span in spans.items() if span != self.spans[number]]
-        windows, alone = self._wanted_windows(kept, is_all_held)
+        held, alone = self._wanted(kept, is_all_held)
         # Spans are changed while domains are full, since each change costs the minutes that it removes or restores: so
         # held events are released first and held again last, except for those without activities before and after.
-        lifted = [event for event, window in self.windows.items() if window and event not in self.alone & alone]
-        lifted = [event for event in lifted if changed or windows.get(event) != self.windows[event]]
-        commands = [f"unfix {event}" for event in lifted]
-        self.windows.update((event, None) for event in lifted)
+        same = {event for event, window in self.held.items() if held.get(event) == window}
+        if changed:
+            same &= self.alone & alone
+        commands = [f"unfix {event}" for event in self.held if event not in same]
         commands += [f"span {number} {spans[number].lower} {spans[number].upper}" for number in changed]
-        held = [(event, window) for event, window in windows.items() if window != self.windows[event]]
-        commands += [window_command(event, window) for event, window in held]
-        commands += [f"unfix {event}" for event, window in self.windows.items() if window and event not in windows]
-        self.windows.update({event: windows.get(event) for event in self.windows})
-        self.spans, self.alone = spans, alone
+        commands += [window_command(event, window) for event, window in held.items() if event not in same]
+        self.spans, self.held, self.alone = spans, held, alone
         return self._send([*commands, *questions])[len(commands) :]
 
     def _span(self, kept: Kept, number: int) -> Span:
         """The span of an activity in a set; if it is not in it, one that every pair of times meets."""
         bounds = kept.get(Member(Of.ACTIVITY, number))
-        return bounds if isinstance(bounds, Span) else self._let_go(number)
-
-    def _let_go(self, number: int) -> Span:
-        """A span that every pair of times meets, near the present one so that few domains change."""
+        # Near the present one, so that few domains change.
         lower = min(self.spans[number].lower, GREATEST_BOUND - self.period + 1)
-        return Span(lower, lower + self.period - 1)
+        return bounds if isinstance(bounds, Span) else Span(lower, lower + self.period - 1)
 
-    def _wanted_windows(self, kept: Kept, is_all_held: bool) -> tuple[dict[int, Window], set[int]]:
+    def _wanted(self, kept: Kept, is_all_held: bool) -> tuple[dict[int, Window], set[int]]:
         """The windows of the set with one held event for each part that has none, and the events without an activity."""
-        windows = {member.number: bounds for member, bounds in kept.items() if isinstance(bounds, Held)}
-        windows = {event: held for event, held in windows.items() if held.is_binding(self.period)}
-        wanted = {event: Window(held.first, held.length) for event, held in windows.items()}
-        joins = [self.ends[member.number] for member, bounds in kept.items() if self._joins(bounds)]
-        degrees = dict.fromkeys(self.windows, 0)
-        for event in (event for ends in joins for event in ends):
-            degrees[event] += 1
-        for part in parts_of(self.windows, joins):
-            held = self._held(part, degrees)
-            if (is_all_held or degrees[held]) and not any(event in windows for event in part):
-                wanted[held] = Window(0, 1)
-        return wanted, {event for event, degree in degrees.items() if not degree}
-
-    def _joins(self, bounds: Span | Held) -> bool:
-        return isinstance(bounds, Span) and bounds.is_binding(self.period)
-
-    def _held(self, part: set[int], degrees: dict[int, int]) -> int:
-        """The event of a free part that is held: a preferred one, else the one with most activities of the set."""
-        for event in self.preferred:
-            if event in part:
-                return event
-        return max(part, key=lambda event: (degrees[event], -event))
+        binding = {member: bounds for member, bounds in kept.items() if bounds.is_binding(self.period)}
+        wanted = {member.number: Window(each.first, each.length) for member, each in binding.items() if isinstance(each, Held)}
+        joins = [self.ends[member.number] for member in binding if member.of is Of.ACTIVITY]
+        degrees = Counter(event for ends in joins for event in ends)
+        for part in parts_of(self.events, joins):
+            held = max(part, key=lambda event: (event == self.preferred, degrees[event], -event))
+            if (is_all_held or degrees[held]) and wanted.keys().isdisjoint(part):
+                wanted[held] = Window(0)
+        return wanted, {event for event in self.events if not degrees[event]}
 
     def _send(self, commands: list[str]) -> list[Outcome]:
         """The answers to commands, none of which may be refused."""

@@ -3,7 +3,7 @@
 from __future__ import annotations
 
 from dataclasses import dataclass
-from typing import Optional, Sequence, Union
+from typing import Optional, Sequence
 
 from pespbench.network import Activity
 from pespbench.why.members import Held, Kept, Of
@@ -28,7 +28,7 @@ class Step:
 
 
 @dataclass(frozen=True)
-class Circle:
+class Shape:
     """Activities that return to their first event, so that they have to take a whole number of periods."""
 
     steps: list[Step]
@@ -42,50 +42,44 @@ class Circle:
     @property
     def most(self) -> int:
         """The most minutes along the path."""
-        return -least_of([Step(step.activity, not step.is_forward) for step in self.steps])
+        return -least_of(back_of(self.steps))
 
     @property
     def wanted(self) -> tuple[tuple[int, int], tuple[int, int]]:
         """The possible durations of the path: the nearest below, and the nearest above, each from the least to the most."""
-        below = self.most // self.period * self.period
-        return (below, below), (below + self.period, below + self.period)
+        return self._wanted(0, 0)
 
-
-@dataclass(frozen=True)
-class Way:
-    """Activities from one held event to another."""
-
-    steps: list[Step]
-    period: int
-    first: Held
-    last: Held
-
-    @property
-    def least(self) -> int:
-        """The least minutes along the path."""
-        return least_of(self.steps)
-
-    @property
-    def most(self) -> int:
-        """The most minutes along the path."""
-        return -least_of([Step(step.activity, not step.is_forward) for step in self.steps])
-
-    @property
-    def wanted(self) -> tuple[tuple[int, int], tuple[int, int]]:
-        """The possible durations of the path, as of a circle."""
-        shortest = self.last.first - (self.first.first + self.first.length - 1)
-        width = self.first.length + self.last.length - 2
+    def _wanted(self, shortest: int, width: int) -> tuple[tuple[int, int], tuple[int, int]]:
         # The last one that begins below the most minutes of the path; as none fits, it ends below the least.
         below = shortest + (self.most - shortest) // self.period * self.period
         return (below, below + width), (below + self.period, below + self.period + width)
 
 
-Shape = Union[Circle, Way]
+class Circle(Shape):
+    """Activities that come back to where they began, so that they have to take a whole number of periods."""
+
+
+@dataclass(frozen=True)
+class Way(Shape):
+    """Activities from one held event to another."""
+
+    first: Held
+    last: Held
+
+    @property
+    def wanted(self) -> tuple[tuple[int, int], tuple[int, int]]:
+        """The same, by the windows at its ends."""
+        return self._wanted(self.last.first - (self.first.first + self.first.length - 1), self.first.length + self.last.length - 2)
 
 
 def least_of(steps: Sequence[Step]) -> int:
     """The least minutes along some steps; an activity in the opposite direction subtracts its minutes."""
     return sum(step.activity.lower if step.is_forward else -step.activity.upper for step in steps)
+
+
+def back_of(steps: Sequence[Step]) -> list[Step]:
+    """The same steps in the other direction."""
+    return [Step(step.activity, not step.is_forward) for step in reversed(steps)]
 
 
 def shape_of(kept: Kept, activities: dict[int, Activity], period: int) -> Optional[Shape]:
@@ -94,18 +88,16 @@ def shape_of(kept: Kept, activities: dict[int, Activity], period: int) -> Option
     windows = {member.number: bounds for member, bounds in kept.items() if isinstance(bounds, Held)}
     if len(windows) not in (0, 2) or not used:
         return None
-    start = min(windows) if windows else used[0].from_event
+    start = min(windows, default=used[0].from_event)
     steps = walk(start, used)
-    if len(steps) != len(used):
-        return None
     events = [start, *(step.end for step in steps)]
-    if not windows:
-        is_circle = events[-1] == start and len(set(events)) == len(steps)
-        return Circle(turned(steps), period) if is_circle else None
-    if set(windows) != {events[0], events[-1]} or len(set(events)) != len(events):
+    if len(steps) != len(used) or len(set(events)) != len(steps) + bool(windows):
         return None
     steps = turned(steps)
-    return Way(steps, period, windows[steps[0].start], windows[steps[-1].end])
+    if windows:
+        is_way = set(windows) == {events[0], events[-1]}
+        return Way(steps, period, windows[steps[0].start], windows[steps[-1].end]) if is_way else None
+    return Circle(steps, period) if events[-1] == start else None
 
 
 def walk(start: int, activities: Sequence[Activity]) -> list[Step]:
@@ -125,11 +117,4 @@ def walk(start: int, activities: Sequence[Activity]) -> list[Step]:
 
 def turned(steps: list[Step]) -> list[Step]:
     """The steps in the direction in which they take time rather than subtract it; otherwise in that of most activities."""
-    back = [Step(step.activity, not step.is_forward) for step in reversed(steps)]
-    least, most = least_of(steps), -least_of(back)
-    return steps if (least + most, forward_of(steps)) >= (0, forward_of(back)) else back
-
-
-def forward_of(steps: Sequence[Step]) -> int:
-    """How many steps run along their activities."""
-    return sum(step.is_forward for step in steps)
+    return max(steps, back_of(steps), key=lambda way: (least_of(way), sum(step.is_forward for step in way)))

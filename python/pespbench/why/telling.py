@@ -4,6 +4,7 @@ from __future__ import annotations
 
 from typing import Sequence
 
+from pespbench.forms import Table
 from pespbench.why.answers import Conflict, Mend, Possible, Undecided, Why
 from pespbench.why.members import Bounds, Held, Member, Of, Verdict
 from pespbench.why.shapes import Circle, Shape
@@ -18,6 +19,7 @@ WHOLE = {
 }
 # The kinds whose repairs are listed before others of as many minutes: theirs are the easiest to make.
 FIRST_KINDS = ("turnaround", "turn", "change")
+TITLES = ["part", "of", "number", "name", "lower", "upper", "hard", "minutes", "whole"]
 
 
 def text_of(answer: Why, names: Names) -> str:
@@ -28,6 +30,24 @@ def text_of(answer: Why, names: Names) -> str:
         return f"Undecided: a search of {answer.nodes:,} nodes came to no timetable, and single activities show no conflict.\n"
     blocks = [members_text(answer, names), shape_text(answer), claim_text(answer, names), mends_text(answer, names)]
     return "\n".join(filter(None, blocks))
+
+
+def table_of(answer: Why, names: Names) -> Table:
+    """The members of a conflict, in the order of their circle or way, and then its mends, with what they ask for."""
+    if isinstance(answer, Possible):
+        return Table("possible", {}, ["event", "time"], sorted(answer.times.items()))
+    if isinstance(answer, Undecided):
+        return Table("undecided", {"nodes": answer.nodes})
+    rows = [["member", *cells(each, answer.members[each], names), each in answer.hard, None, None] for each in ordered(answer)]
+    for mend in in_order(answer.mends, names):
+        rows.append(["mend", *cells(mend.member, mend.after, names), False, mend.minutes, mend.whole.value if mend.whole else None])
+    return Table("conflict", {"is_least": answer.is_least}, TITLES, rows)
+
+
+def cells(member: Member, bounds: Bounds, names: Names) -> list[object]:
+    """Whose member it is, its name, and the first and the last that it may be."""
+    ends = (bounds.first, bounds.first + bounds.length - 1) if isinstance(bounds, Held) else (bounds.lower, bounds.upper)
+    return [member.of.value, member.number, member_name(member, names), *ends]
 
 
 def members_text(conflict: Conflict, names: Names) -> str:
