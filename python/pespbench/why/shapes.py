@@ -3,7 +3,7 @@
 from __future__ import annotations
 
 from dataclasses import dataclass
-from typing import Optional, Sequence
+from typing import Optional, Sequence, Union
 
 from pespbench.network import Activity
 from pespbench.why.members import Held, Kept, Of
@@ -28,7 +28,7 @@ class Step:
 
 
 @dataclass(frozen=True)
-class Shape:
+class Chain:
     """Activities that return to their first event, so that they have to take a whole number of periods."""
 
     steps: list[Step]
@@ -55,12 +55,12 @@ class Shape:
         return (below, below + width), (below + self.period, below + self.period + width)
 
 
-class Circle(Shape):
+class Circle(Chain):
     """Activities that come back to where they began, so that they have to take a whole number of periods."""
 
 
 @dataclass(frozen=True)
-class Way(Shape):
+class Way(Chain):
     """Activities from one held event to another."""
 
     first: Held
@@ -70,6 +70,9 @@ class Way(Shape):
     def wanted(self) -> tuple[tuple[int, int], tuple[int, int]]:
         """The same, by the windows at its ends."""
         return self._wanted(self.last.first - (self.first.first + self.first.length - 1), self.first.length + self.last.length - 2)
+
+
+Shape = Union[Circle, Way]
 
 
 def least_of(steps: Sequence[Step]) -> int:
