@@ -4,6 +4,7 @@ import { addLabels } from './forms/adding.js';
 import { zipOf } from './files/archive.js';
 import { keptFree } from './draw/bands.js';
 import { boundingOf } from './search/bounding.js';
+import { findWhy } from './search/conflict.js';
 import { chooseCorridor, corridor } from './draw/corridor.js';
 import { diagramOf } from './draw/diagram.js';
 import { costsBeside, differences } from './session/differing.js';
@@ -49,7 +50,7 @@ window.Page = Object.freeze({
   get readyAfter() { return readyAfter(); },
   ask: askSession, step: doStep,
   addLabels, asItIs, atOnce, bareClock, boundingOf, choose, chooseCorridor, corridor, costsBeside, countViolated, diagramOf, differences, domainText, drawing,
-  eventName, filesOf, filesToSave, find, folderName, goTo, isForward, isInfeasible, isRefused, isSaved, journal, keptFree,
+  eventName, filesOf, filesToSave, find, findWhy, folderName, goTo, isForward, isInfeasible, isRefused, isSaved, journal, keptFree,
   kindOf, labelOf, layOut, moveTrain, netgraphOf, openStory, openTexts, placesText, present, preview, rangeShown, readCost,
   readDomains, readNetwork, readPlaces, readTensions, readViolations, redo, refresh, reportOf, run, say, session, showBar,
   showRow, showSaving, showTab, sizeNow, spread, stepOf, stories, timesNow, titleOf, trackOf, undo, viewOfReport, within, zipOf,

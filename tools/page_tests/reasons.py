@@ -23,6 +23,18 @@ FORMS = ((3, 0.3, (0.34, 0.4, 0.5)), (1, 0.6, (0.0, 0.1, 0.2)), (2, 0.3, (0.0, 0
 # Lists of conflicts and repairs, and the sentences between them.
 TOLD = """[...document.querySelectorAll('#reasons > *')].map(each => each.tagName !== 'TABLE' ? each.textContent
     : [...each.rows].map(row => [...row.cells].map(cell => cell.textContent)))"""
+# Why, where memory is too short for each search of more than two activities.
+WITHOUT_MEMORY = """(() => {
+    const { answer } = PespModule, isSmall = ({ commands, activities }) => !commands.includes('try') || activities.split('\\n').length <= 3;
+    PespModule.answer = (module, run) => isSmall(run) ? answer(module, run)
+        : { output: new Uint8Array(0), ending: { status: 6 }, fault: 'out of memory at line 1' };
+    try {
+        const { members, mends } = Page.findWhy(Page.view.network);
+        return [members.map(({ number }) => number), mends.map(({ whole }) => whole)];
+    } finally {
+        PespModule.answer = answer;
+    }
+})()"""
 
 
 def drawn(seed: int) -> Network:
@@ -111,4 +123,11 @@ def told_twice(suite: Suite, page: Hands) -> None:
     page.again()
 
 
-GROUPS = [told_twice]
+def found_without_memory(suite: Suite, page: Hands) -> None:
+    """A conflict is found, and whether a repair is enough for the whole network is undecided where the search of it runs out of memory."""
+    page.again()
+    page.show({"activities": "1; 1; 2; 3; 3; 0\n2; 2; 1; 4; 6; 0\n3; 2; 3; 1; 5; 0\n", "period": "10\n"})
+    suite.note("a circle", {"found": [[1, 2], ["undecided", "undecided"]]}, {"found": page.ask(WITHOUT_MEMORY)})
+
+
+GROUPS = [told_twice, found_without_memory]

@@ -31,8 +31,8 @@ const called = (owner, call) => {
 };
 
 export const answer = run => {
-  const { output, fault } = called(moduleNow(), each => PespModule.answer(each, run));
-  return { output: decoder.decode(output), fault };
+  const { output, ending, fault } = called(moduleNow(), each => PespModule.answer(each, run));
+  return { output: decoder.decode(output), fault, isWanting: MEMORY.includes(ending.status) };
 };
 
 // A session of files, with a fault or '': it answers lines until it is closed, returns results of searches in numbers, and

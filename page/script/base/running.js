@@ -24,8 +24,8 @@ export class RunFault extends Error {
 // The replies to some lines after those of the base. Raises RunFault.
 export const run = (base, lines) => {
   const all = [...base.setup, ...lines];
-  const { output, fault } = answer({ ...base, commands: all.length ? all.join('\n') + '\n' : '' });
-  if (fault) throw new RunFault(fault);
+  const { output, fault, isWanting } = answer({ ...base, commands: all.length ? all.join('\n') + '\n' : '' });
+  if (fault) throw new RunFault(fault, isWanting);
   const replies = splitReplies(output);
   base.setup.forEach((line, place) => isDone(line, replies[place]));
   return replies.slice(base.setup.length);

@@ -62,9 +62,17 @@ export const byDomains = (probe, members) => {
 // The result of a search with this many nodes of only the members; the same members are not searched again.
 export const bySearch = (probe, members, nodes) => {
   const key = `${nodes} ${keyOf(members)}`;
-  if (!probe.known.has(key)) {
-    const { kind } = readFound(run(baseOf(probe, members), [`try ${nodes}`])[0]);
-    probe.known.set(key, { infeasible: 'infeasible', none: 'undecided' }[kind] || 'possible');
-  }
+  if (!probe.known.has(key)) probe.known.set(key, searched(baseOf(probe, members), nodes));
   return probe.known.get(key);
+};
+
+// A search for which memory is too short decides nothing; what is known without it remains.
+const searched = (base, nodes) => {
+  try {
+    const { kind } = readFound(run(base, [`try ${nodes}`])[0]);
+    return { infeasible: 'infeasible', none: 'undecided' }[kind] || 'possible';
+  } catch (fault) {
+    if (!fault.isWanting) throw fault;
+    return 'undecided';
+  }
 };
