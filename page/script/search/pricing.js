@@ -43,22 +43,30 @@ export const untilSure = async (session, events, { isLeft, hear, tell = () => {}
 // A timetable whose cost equals the bound is the best, if not the first of that cost, which takes longer to find.
 const asBest = found => found.cost !== undefined && BigInt(found.cost) === BigInt(found.bound) ? { ...found, kind: 'optimum' } : found;
 
+// Lets messages in, but not more often than they have to be heard.
+const seldom = hear => {
+  let heard = performance.now();
+  return async () => {
+    if (performance.now() - heard < UNHEARD) return;
+    await hear();
+    heard = performance.now();
+  };
+};
+
 // Reports the price of each of some minutes, one after another, until another task arrives.
 export const tellPrices = async (session, { question, minutes, events }, tell, { isLeft, hear }) => {
-  let heard = performance.now();
+  const listen = seldom(hear);
   for (const minute of minutes) {
     const { line, back, less } = OF[question.of](question, minute);
     does(session, [line]);
     try {
-      const found = await untilSure(session, events, { isLeft, hear, read: asBest, first: FEW_NODES });
+      const found = await untilSure(session, events, { isLeft, hear: listen, read: asBest, first: FEW_NODES });
       if (!found) return;
       tell({ price: { minute, ...priceOf(found, less) } });
     } finally {
       does(session, [back]);
     }
-    if (performance.now() - heard < UNHEARD) continue;
-    await hear();
-    heard = performance.now();
+    await listen();
     if (isLeft()) return;
   }
   tell({ isDone: true });
