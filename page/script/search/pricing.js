@@ -28,7 +28,7 @@ const priceOf = ({ kind, cost, bound, times }, less) =>
   ({ kind, cost: more(cost, less), bound: more(bound, less), times: times ? Uint16Array.from(times.values()) : null });
 
 // Searches until it is decided, or takes too long, or another task arrives; then null. Intermediate results are reported.
-export const untilSure = async (session, events, { isLeft, hear, tell = () => {}, read = found => found, first = FIRST_NODES }) => {
+export const untilSure = async (session, events, { isLeft, hear, tell = found => found, read = found => found, first = FIRST_NODES }) => {
   const until = performance.now() + MOST;
   for (let nodes = first; ;) {
     const from = performance.now(), found = read(session.search(nodes, events)), now = performance.now();
