@@ -30,8 +30,10 @@ PROGRAM_ALONE += ["look_for_sources", "documents_of_what_is_built"]
 SLOWER = "4"
 # The seconds after which the parts that run are reported again.
 SILENT = 20
-# The longest ones, which start first, so that none of them runs alone at the end.
-LONGEST = ["the program's rows and streams", "the page in a browser", "python_why", "pesp_tests_text", "pesp_tests_shell"]
+# The shares of the page's tests, each with a browser of its own.
+PAGE = [f"the page in a browser, {share}/4" for share in range(1, 5)]
+# The longest parts, which start first, so that none of them runs alone at the end.
+LONGEST = ["the program's rows and streams", *PAGE, "python_why", "pesp_tests_text", "pesp_tests_shell"]
 LONGEST += ["python_variants", "python_files", "damaged_files", "pesp_tests_core", "drawn_streams"]
 # The commands that some groups need besides Node.
 MORE = {"python_browser": "browser"}
@@ -99,7 +101,8 @@ def parts(program: Path, patience: int) -> List[Part]:
     how: List[object] = ["--patience", patience]
     found = [Part("the program's rows and streams", ["rt", "node"], cases)]
     found += [Part(name, ["rt"], partial(crate, name)) for name in CRATES]
-    found.append(Part("the page in a browser", ["browser"], lambda: counted([sys.executable, TOP / "tools/test_page", *how])))
+    for share in PAGE:
+        found.append(Part(share, ["browser"], partial(counted, [sys.executable, TOP / "tools/test_page", *how, "--share", share.split()[-1]])))
     for name in whole.groups():
         if name not in PROGRAM_ALONE:
             words: List[object] = [sys.executable, TOP / "tools/test_program", *how, "--slower", SLOWER, "--only", name, program]
