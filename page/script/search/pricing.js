@@ -48,8 +48,8 @@ const seldom = hear => {
   let heard = performance.now();
   return async () => {
     if (performance.now() - heard < UNHEARD) return;
-    await hear();
     heard = performance.now();
+    await hear();
   };
 };
 
