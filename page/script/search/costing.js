@@ -147,7 +147,7 @@ const drawChosen = (view, event) => {
 
 const drawAll = () => {
   const { view, chosen } = display;
-  [frame, drawnAt] = [0, performance.now()];
+  frame = 0;
   if (!view || !view.domains.has(chosen)) return;
   find('prices-of-train').hidden = !isOn() || !trainAt(chosen);
   find('prices').classList.toggle('busy', isPricing());
@@ -162,15 +162,21 @@ const drawSoon = () => {
 
 const drawPriced = () => {
   timer = timer || setTimeout(() => {
-    timer = 0;
+    [timer, drawnAt] = [0, performance.now()];
     drawSoon();
   }, drawnAt + APART - performance.now());
 };
 
-const again = () => {
-  wantPrices(questions(display.view));
+// The first answer to a new question is drawn as soon as it arrives.
+const ask = view => {
+  wantPrices(questions(view));
+  if (view.isTried) return;
+  clearTimeout(timer);
+  [timer, drawnAt] = [0, -APART];
   drawSoon();
 };
+
+const again = () => ask(display.view);
 
 const askTrain = () => {
   ofTrain = display.chosen;
@@ -192,10 +198,7 @@ const makeHands = () => {
 export const costingPanel = {
   begin: () => { [ofTrain, activities] = [null, new Set()]; },
   build,
-  update: view => {
-    wantPrices(questions(view));
-    if (!view.isTried) drawSoon();
-  },
+  update: ask,
 };
 
 export const startCosting = () => {

@@ -9,12 +9,13 @@ import { soleWorker } from '../base/workers.js';
 // number of timetables.
 const known = new Map(), MOST_TIMES = 20000000, NONE = new Map();
 
-// One processor is left to the page, and four are enough; each Worker gets this many minutes at once.
-const CREW = Math.min(4, Math.max(1, (navigator.hardwareConcurrency || 2) - 1)), PIECE = 6;
+// One processor is left to the page, and four are enough; each Worker gets PIECE minutes at once, the others LATER milliseconds after
+// the first one.
+const CREW = Math.min(4, Math.max(1, (navigator.hardwareConcurrency || 2) - 1)), PIECE = 6, LATER = 100;
 
 // The requested prices, in this order.
 const crew = Array.from({ length: CREW }, soleWorker);
-let wanted = [], hear = () => {};
+let wanted = [], hear = () => {}, timer = 0;
 
 export const hearPrices = listener => { hear = listener; };
 
@@ -48,13 +49,13 @@ export const carryPrices = (question, act) => {
   hear();
 };
 
-const answered = ({ mark, question }) => ({ price, fault }) => {
+const answered = (worker, { mark, question }) => ({ price, fault }) => {
   if (price) keep(mark, question, new Map((known.get(mark) || NONE).get(keyOf(question)) || NONE).set(price.minute, price));
   if (fault) {
     say(fault, true);
     wanted = [];
   }
-  askNext();
+  askNext([worker]);
   hear();
 };
 
@@ -72,12 +73,18 @@ const askOne = worker => {
   const question = wanted.find(each => leftOf(each).length);
   if (!question) return;
   const next = { kind: 'prices', mark: markNow(), ...present(), question, minutes: leftOf(question).slice(0, PIECE), events: display.view.network.events };
-  worker.ask(next, answered(next));
+  worker.ask(next, answered(worker, next));
 };
 
-const askNext = (asked = crew) => {
+const askNext = workers => {
   if (!wanted.length) crew.forEach(({ end }) => end());
-  else asked.filter(worker => !worker.of()).forEach(askOne);
+  else workers.filter(worker => !worker.of()).forEach(askOne);
+};
+
+// The other workers start a moment after the first one, whose first answer they would delay.
+const startOthers = () => {
+  clearTimeout(timer);
+  timer = setTimeout(() => { if (!display.view.isTried) askNext(crew); }, LATER);
 };
 
 // Computes the answers to some questions, one after another, replacing earlier ones. Each is about an event, with its window, or
@@ -87,8 +94,8 @@ export const wantPrices = questions => {
   wanted = questions;
   if (display.view.isTried) return;
   for (const worker of crew) if (worker.of() && !(first && isOf(worker.of(), first))) worker.leave();
-  // The others start once the first one has answered, so as not to delay it.
   askNext(crew.slice(0, 1));
+  startOthers();
 };
 
 // Whether more comes.
